@@ -1,0 +1,6 @@
+pub mod Digits
+pub mod Fields
+pub mod Reading
+pub mod Cutting
+pub mod Columns
+pub mod Verdicts
