@@ -1,0 +1,72 @@
+-- What was written is read back. Assumes nothing.
+use mathlib.Core.Path.{_≡_, refl, sym, ap, subst, _∙_}
+use mathlib.Core.Bool.{Bool, true, false, cond, _&&_}
+use mathlib.Core.List.{List, [], _∷_, _++_, append-assoc}
+use Prim.Native.Nat.{ℕ, zero, suc, _+_, _-_, _*_, _≤_, _<_}
+use native.Mathlib.Omega.{arith}
+use native.Mathlib.Numerals.{one-add}
+use lib.Dec.{leb}
+use lib.ListN.{length, getD, take, drop, length-append}
+use Rattle.std.specs.Joined.{joined}
+use Rattle.std.specs.Results.{isOk}
+use Rattle.std.specs.declared.result.Result.{Result}
+use Rattle.std.specs.declared.result.Result.the-variants.{Ok, Err}
+use Rattle.std.specs.declared.option.Option.the-variants.{Some}
+use Rattle.std.proofs.shelf.Lists.{take-at, drop-at, drop-drop}
+use Rattle.std.proofs.shelf.Tests.{and-parts, and-from, leb-true, le-leb, lt-leb, cond-true, cond-false, both-ways}
+use Rattle.refusal.specs.declared.Refusal.{Refusal}
+use Rattle.refusal.specs.declared.Refusal.the-variants.{ShortText, NumberTooLarge}
+use Rattle.trace.specs.Field.{greatest, field, numberIn}
+use Rattle.trace.specs.Line.{lineOf, fieldAt, opens, inRange, headIn}
+use Rattle.trace.proofs.Fields.{length-field, number-in-field, same-from-field}
+use Rattle.trace.proofs.Verdicts.{head-back, in-range}
+use Rattle.report.specs.Written.{allFit, answerOf, after, NumberBack, FieldsBack, HeadBack, Apart}
+use Rattle.report.proofs.Assembly.{fit-at}
+
+-- the field of number k among the fields of ns
+among-fields : (ns rest : List ℕ) (k : ℕ) → allFit ns ≡ true → k < length ns → take 8 (drop (8 * k) (joined field ns ++ rest)) ≡ field (getD ns k 0)
+among-fields [] rest k e h = absurd (omega arith)
+among-fields (n ∷ ns) rest zero e h =
+    let long = length-field n (fit-at (n ∷ ns) 0 e h) in
+    ap (take 8) (append-assoc (field n) (joined field ns) rest) ∙ take-at (field n) (joined field ns ++ rest) 8 long
+among-fields (n ∷ ns) rest (suc k) e h =
+    let long = length-field n (fit-at (n ∷ ns) 0 e (omega arith)) in
+    let step : 8 * suc k ≡ 8 + 8 * k = omega arith in
+    let all = (field n ++ joined field ns) ++ rest in
+    ap (take 8) (ap (λ j. drop j all) step ∙ sym (drop-drop (8 * k) 8 all) ∙ ap (drop (8 * k)) (ap (drop 8) (append-assoc (field n) (joined field ns) rest) ∙ drop-at (field n) (joined field ns ++ rest) 8 long))
+    ∙ among-fields ns rest k (and-parts (leb n greatest) (allFit ns) e .1) (omega arith)
+
+field-of-line : (letter : ℕ) (ns rest : List ℕ) (k : ℕ) → allFit ns ≡ true → k < length ns → fieldAt k (lineOf letter ns ++ rest) ≡ field (getD ns k 0)
+field-of-line letter ns rest k e h =
+    let wide : 9 + 8 * k - (1 + 8 * k) ≡ 8 = omega arith in
+    let from : 1 + 8 * k ≡ suc (8 * k) = one-add (8 * k) in
+    (λ i. take (wide i) (drop (from i) (lineOf letter ns ++ rest)))
+    ∙ ap (λ l. take 8 (drop (8 * k) l)) (append-assoc (joined field ns) (10 ∷ []) rest)
+    ∙ among-fields ns (10 ∷ rest) k e h
+
+pub fields-back : (letter : ℕ) (ns rest s : List ℕ) → allFit ns ≡ true → s ≡ lineOf letter ns ++ rest → FieldsBack ns s
+fields-back letter ns rest s e is k h =
+    ap numberIn (ap (fieldAt k) is ∙ field-of-line letter ns rest k e h) ∙ number-in-field (getD ns k 0) (fit-at ns k e h)
+
+pub number-back : (n : ℕ) (rest s : List ℕ) → n ≤ greatest → s ≡ field n ++ rest → NumberBack n s
+number-back n rest s h is = ap numberIn (ap (take 8) is ∙ take-at (field n) rest 8 (length-field n h)) ∙ number-in-field n h
+
+pub apart : (n : ℕ) → Apart n
+apart n m p q e = same-from-field m n p q e
+
+-- what the answer says of the numbers and of the space
+pub answer-fits : (ns : List ℕ) (least n : ℕ) (s : List ℕ) → allFit ns ≡ true → least ≤ length s → Ok n ≡ answerOf ns least n s
+answer-fits ns least n s e h = sym (cond-true _ _ _ e ∙ cond-true _ _ _ (le-leb least (length s) h))
+
+pub answer-short : (ns : List ℕ) (least n : ℕ) (s : List ℕ) → allFit ns ≡ true → length s < least → Err ShortText ≡ answerOf ns least n s
+answer-short ns least n s e h = sym (cond-true _ _ _ e ∙ cond-false _ _ _ (lt-leb least (length s) h))
+
+-- a head that was written
+pub head-written : (letter ports cells : ℕ) (s entry : List ℕ) (r : Result ℕ Refusal) → r ≡ answerOf (ports ∷ cells ∷ []) 34 18 entry → s ≡ after r (lineOf letter (ports ∷ cells ∷ [])) entry → isOk r ≡ true → HeadBack letter ports cells s
+head-written letter ports cells s entry (Err refusal) answer is ok = absurd (both-ways _ refl ok)
+head-written letter ports cells s entry (Ok n) answer is ok = λ l p q.
+    let ports-in = in-range 1 256 ports p in
+    let cells-in = in-range 1 4096 cells q in
+    let long : length (lineOf letter (ports ∷ cells ∷ [])) ≡ 18 = omega (arith, length-append (field ports ++ (field cells ++ [])) (10 ∷ []), length-append (field ports) (field cells ++ []), length-append (field cells) [], length-field ports (omega arith), length-field cells (omega arith)) in
+    ap headIn (ap (take 18) is ∙ take-at (lineOf letter (ports ∷ cells ∷ [])) (drop n entry) 18 long)
+    ∙ head-back (lineOf letter (ports ∷ cells ∷ [])) (letter, ports, cells) .1 (record { letter = l; ports = ports-in; cells = cells-in; octets = refl })
