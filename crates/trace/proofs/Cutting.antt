@@ -17,6 +17,11 @@ line-fits [] = omega arith
 line-fits (c ∷ cs) =
     elim (eqb c 10) as (λ b. cond b 1 (suc (lineLength cs)) ≤ suc (length cs)) [ true ↦ omega arith | false ↦ omega (arith, line-fits cs) ]
 
+pub line-some : (t : List ℕ) → 0 < length t → 0 < lineLength t
+unfolding lineLength
+line-some [] h = absurd (omega arith)
+line-some (c ∷ cs) h = elim (eqb c 10) as (λ b. 0 < cond b 1 (suc (lineLength cs))) [ true ↦ omega arith | false ↦ omega arith ]
+
 -- a line that goes on past i octets
 pub line-more : (t : List ℕ) (i : ℕ) → i < length t → (getD t i 0 ≡ 10 → ⊥) → lineLength (drop i t) ≡ suc (lineLength (drop (i + 1) t))
 unfolding lineLength
@@ -58,7 +63,7 @@ unfolding lineLength linesOf
 next-line [] h = absurd (omega arith)
 next-line (c ∷ cs) h = first-line c cs
 
-no-line : (t : List ℕ) → length t ≡ 0 → linesOf t ≡ []
+pub no-line : (t : List ℕ) → length t ≡ 0 → linesOf t ≡ []
 unfolding linesOf
 no-line [] h = refl
 no-line (c ∷ cs) h = absurd (omega arith)

@@ -28,13 +28,13 @@ use Rattle.trace.proofs.Fields.{length-field, number-in-field, shows-number}
 use Rattle.trace.proofs.Columns.{framed, shaped-framed, framed-shaped, framed-first, framed-second, line-framed}
 
 module _ {T : Type 0} where
-  err-ok : {x : Refusal} {v : T} → _≡_ {A = Result T Refusal} (Err x) (Ok v) → ⊥
+  pub err-ok : {x : Refusal} {v : T} → _≡_ {A = Result T Refusal} (Err x) (Ok v) → ⊥
   err-ok e = let z : _≡_ {A = ℕ} 0 1 = cc in omega arith
 
-  ok-same : {v w : T} → _≡_ {A = Result T Refusal} (Ok v) (Ok w) → v ≡ w
+  pub ok-same : {v w : T} → _≡_ {A = Result T Refusal} (Ok v) (Ok w) → v ≡ w
   ok-same {v} {w} e = ap (λ r. valueOr r v) e
 
-  unless-ok : (b : Bool) (x : Refusal) (r : Result T Refusal) (v : T) → unless b x r ≡ Ok v → (b ≡ true) × (r ≡ Ok v)
+  pub unless-ok : (b : Bool) (x : Refusal) (r : Result T Refusal) (v : T) → unless b x r ≡ Ok v → (b ≡ true) × (r ≡ Ok v)
   unless-ok true x r v e = (refl, e)
   unless-ok false x r v e = absurd (err-ok e)
 

@@ -1,3 +1,4 @@
 pub mod Field
+pub mod Inspection
 pub mod Line
 pub mod Text

@@ -1,11 +1,16 @@
 // trace — reading a trace: its lines, its head, its events, and what a whole file holds.
 mod events;
 mod field;
+mod inspection;
 mod lines;
 mod reader;
+mod summary;
 
 pub use events::Event;
 pub use field::number;
+pub use inspection::inspect;
 pub use lines::cut;
 pub use reader::event;
 pub use reader::head;
+pub use summary::Damage;
+pub use summary::Summary;

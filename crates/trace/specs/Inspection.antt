@@ -1,0 +1,120 @@
+-- What is in a trace, and which of its lines is refused first. Assumes nothing.
+--     eventFor n s        the event that the line s is, in a trace for n ports
+--     refusalAt ls i      why line i of the lines ls is refused, if it is; i counts from 0
+--     Whole ls s          none of the lines is refused, and s is what is in them
+--     Damaged ls d        d is the first line that is refused, and why
+use mathlib.Core.Path.{_≡_}
+use mathlib.Core.Bool.{Bool, true, false}
+use mathlib.Core.List.{List, [], _∷_}
+use Prim.Native.Nat.{ℕ, zero, suc, _+_, _-_, _^_, _≤_, _<_, max}
+use lib.Dec.{eqb, ltb}
+use lib.ListN.{length, getD, set, drop}
+use Rattle.std.specs.Results.{errPart}
+use Rattle.std.specs.shelf.Lists.{countBy, sum}
+use Rattle.std.specs.declared.option.Option.{Option}
+use Rattle.std.specs.declared.option.Option.the-variants.{Some, None}
+use Rattle.std.specs.declared.result.Result.{Result}
+use Rattle.std.specs.declared.result.Result.the-variants.{Ok, Err}
+use Rattle.refusal.specs.declared.Refusal.{Refusal}
+use Rattle.refusal.specs.declared.Refusal.the-variants.{NoSuchPort}
+use Rattle.trace.specs.declared.events.Event.{Event}
+use Rattle.trace.specs.declared.events.Event.the-variants.{Arrival, Tick}
+use Rattle.trace.specs.declared.summary.Damage.{Damage}
+use Rattle.trace.specs.declared.summary.Summary.{Summary}
+use Rattle.trace.specs.Line.{unless, headIn, eventIn}
+
+-- an arrival is for one of the ports 0 to n - 1
+abbrev pub forPorts : ℕ → Result Event Refusal → Result Event Refusal
+forPorts n (Ok (Arrival port tag)) = unless (ltb port n) NoSuchPort (Ok (Arrival port tag))
+forPorts n (Ok Tick) = Ok Tick
+forPorts n (Err refusal) = Err refusal
+
+unfoldable pub eventFor : ℕ → List ℕ → Result Event Refusal
+eventFor n s = forPorts n (eventIn s)
+
+-- the ports that a head opens; none where there is no head
+abbrev pub portsOf : Result (ℕ × ℕ × ℕ) Refusal → ℕ
+portsOf (Ok h) = h .1
+portsOf (Err refusal) = 0
+
+-- the first line is to be a head, and each other line an event; a text with no line lacks its head
+abbrev pub refusalAt : List (List ℕ) → ℕ → Option Refusal
+refusalAt ls zero = errPart (headIn (getD ls 0 []))
+refusalAt ls (suc i) = errPart (eventFor (portsOf (headIn (getD ls 0 []))) (getD ls (suc i) []))
+
+abbrev pub isArrival : Result Event Refusal → Bool
+isArrival (Ok (Arrival port tag)) = true
+isArrival (Ok Tick) = false
+isArrival (Err refusal) = false
+
+abbrev pub isArrivalFor : ℕ → Result Event Refusal → Bool
+isArrivalFor p (Ok (Arrival port tag)) = eqb port p
+isArrivalFor p (Ok Tick) = false
+isArrivalFor p (Err refusal) = false
+
+abbrev pub isTick : Result Event Refusal → Bool
+isTick (Ok (Arrival port tag)) = false
+isTick (Ok Tick) = true
+isTick (Err refusal) = false
+
+-- how many of the lines are events of this kind
+abbrev pub count : (Result Event Refusal → Bool) → List (List ℕ) → ℕ
+count kind ls = countBy (λ s. kind (eventIn s)) ls
+
+-- drop 1 ls: the lines after the head
+pub record Whole (ls : List (List ℕ)) (s : Summary) : Type 0 where
+  pub head : headIn (getD ls 0 []) ≡ Ok (s .rule, s .ports, s .cells)
+  pub taken : (i : ℕ) → i < length ls → refusalAt ls i ≡ None
+  pub lines : s .lines ≡ length ls
+  pub arrivals : s .arrivals ≡ count isArrival (drop 1 ls)
+  pub ticks : s .ticks ≡ count isTick (drop 1 ls)
+  pub tally : (p : ℕ) → p < 256 → getD (s .tally) p 0 ≡ count (isArrivalFor p) (drop 1 ls)
+
+-- lines are named from 1; a text with no line is refused at line 1
+pub record Damaged (ls : List (List ℕ)) (d : Damage) : Type 0 where
+  pub within : (0 < d .line) × (d .line ≤ max 1 (length ls))
+  pub here : refusalAt ls (d .line - 1) ≡ Some (d .refusal)
+  pub before : (i : ℕ) → i + 1 < d .line → refusalAt ls i ≡ None
+
+-- the answer to a trace of these lines
+abbrev pub Inspected : List (List ℕ) → Result Summary Damage → Type 0
+Inspected ls (Ok s) = Whole ls s
+Inspected ls (Err d) = Damaged ls d
+
+-- every line of a whole trace is its head, an arrival or a tick, and every arrival is for one port
+pub record AddsUp (s : Summary) : Type 0 where
+  pub lines : s .lines ≡ 1 + s .arrivals + s .ticks
+  pub ports : s .arrivals ≡ sum (s .tally)
+
+-- what one more event makes of a summary
+abbrev pub counted : Summary → Event → Summary
+counted s (Arrival port tag) = record {
+  rule = s .rule;
+  ports = s .ports;
+  cells = s .cells;
+  lines = s .lines + 1;
+  arrivals = s .arrivals + 1;
+  ticks = s .ticks;
+  tally = set (s .tally) port (getD (s .tally) port 0 + 1);
+}
+counted s Tick = record {
+  rule = s .rule;
+  ports = s .ports;
+  cells = s .cells;
+  lines = s .lines + 1;
+  arrivals = s .arrivals;
+  ticks = s .ticks + 1;
+  tally = s .tally;
+}
+
+-- the tally has a place for the event's port, which holds no more than all arrivals
+abbrev pub Placed : Summary → Event → Type 0
+Placed s (Arrival port tag) = (port < 256) × (getD (s .tally) port 0 ≤ s .arrivals)
+Placed s Tick = Unit {0}
+
+-- no count passes the number of lines, and there is room for one more line
+pub record Countable (s : Summary) (e : Event) : Type 0 where
+  pub arrivals : s .arrivals < s .lines
+  pub ticks : s .ticks < s .lines
+  pub lines : s .lines + 1 < 2 ^ 64
+  pub placed : Placed s e
