@@ -5,6 +5,8 @@ mod inspection;
 mod lines;
 mod reader;
 mod summary;
+#[cfg(test)]
+mod tests;
 
 pub use events::Event;
 pub use field::number;
