@@ -22,9 +22,10 @@ fn main(rt: LibcRuntime) -> Result<(), AnyError> {
 }
 
 fn print_summary(rt: &impl Print, summary: &Summary) -> io::Result<()> {
-    println!(rt, "rule      {}", rule_name(summary.rule()))?;
-    println!(rt, "ports     {}", summary.ports())?;
-    println!(rt, "cells     {}", summary.cells())?;
+    let (letter, ports, cells) = summary.head();
+    println!(rt, "rule      {}", rule_name(letter))?;
+    println!(rt, "ports     {ports}")?;
+    println!(rt, "cells     {cells}")?;
     println!(rt, "lines     {}", summary.lines())?;
     println!(rt, "arrivals  {}", summary.arrivals())?;
     println!(rt, "ticks     {}", summary.ticks())?;
@@ -35,7 +36,11 @@ fn print_summary(rt: &impl Print, summary: &Summary) -> io::Result<()> {
         }
     }
     if summary.lines() > EVENTS + 1 {
-        println!(rt, "note      a switch takes {EVENTS} events; it refuses line {} with 6", EVENTS + 2)?;
+        println!(
+            rt,
+            "note      a switch takes {EVENTS} events; it refuses line {} with 6",
+            EVENTS + 2
+        )?;
     }
     Ok(())
 }

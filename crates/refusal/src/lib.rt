@@ -3,6 +3,9 @@ ghost use mathlib.Core.Path.{_≡_};
 ghost use Rattle.refusal.specs.Table.{numberOf, columnOf};
 use std::fmt;
 
+#[cfg(test)]
+mod tests;
+
 // The two fields of a trace line: columns 2 to 9 and columns 10 to 17.
 #[derive(Clone, Copy, PartialEq, Eq, Debug)]
 pub enum FieldPlace {
@@ -79,7 +82,8 @@ impl Refusal {
             Refusal::NoSuchPort => "the port is not one of the switch's ports",
             Refusal::FewPlaces => "fewer places were handed than the switch has cells",
             Refusal::EventsSpent => "the switch has taken its 90000000 events",
-            Refusal::ShortLists => "the sent list or the marks are shorter than the number of ports",
+            Refusal::ShortLists =>
+                "the sent list or the marks are shorter than the number of ports",
             Refusal::LineShape => "the line is not 18 octets that end in octet 10",
             Refusal::Letter => "the letter is not one that may stand here",
             Refusal::Field(_) => "the field does not show a number, or is not blank on a T line",

@@ -55,11 +55,11 @@ module _ (letter : ℕ) (ns start : List ℕ) (end : ℕ) (text : List ℕ) (p :
   unfolding front
   put-more n next h e = record {
     is =
-      e
-      ∙ ap (λ t. take end t ++ (field n ++ drop (end + 8) t)) (p .is)
-      ∙ (λ i. take-at front (drop end start) end front-long i ++ (field n ++ (sym (drop-drop 8 end (front ++ drop end start)) ∙ ap (drop 8) (drop-at front (drop end start) end front-long) ∙ drop-drop 8 end start) i))
-      ∙ sym (append-assoc front (field n) (drop (end + 8) start))
-      ∙ ap (λ l. l ++ drop (end + 8) start) (joined-more field (letter ∷ []) ns n);
+        e
+        ∙ ap (λ t. take end t ++ (field n ++ drop (end + 8) t)) (p .is)
+        ∙ (λ i. take-at front (drop end start) end front-long i ++ (field n ++ (sym (drop-drop 8 end (front ++ drop end start)) ∙ ap (drop 8) (drop-at front (drop end start) end front-long) ∙ drop-drop 8 end start) i))
+        ∙ sym (append-assoc front (field n) (drop (end + 8) start))
+        ∙ ap (λ l. l ++ drop (end + 8) start) (joined-more field (letter ∷ []) ns n);
     long = ap length (sym (joined-more field [] ns n)) ∙ length-append (joined field ns) (field n) ∙ omega (arith, p .long, length-field n h, length-push ns n);
     place = omega (arith, p .place, length-push ns n);
   }

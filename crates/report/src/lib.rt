@@ -1,6 +1,8 @@
 // report — writing a report: number fields, lines of four numbers, the head line, the X line.
 mod field;
 mod line;
+#[cfg(test)]
+mod tests;
 mod writer;
 
 pub use writer::write_head;

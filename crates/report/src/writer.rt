@@ -49,7 +49,13 @@ pub fn write_head(text: &mut [u8], letter: u8, ports: u32, cells: u32) -> Result
 }
 
 // Writes the X line, which says why a trace was not read to its end: 34 octets.
-pub fn write_refusal(text: &mut [u8], line: u32, refusal: u32, column: u32, period: u32) -> Result<usize, Refusal>
+pub fn write_refusal(
+    text: &mut [u8],
+    line: u32,
+    refusal: u32,
+    column: u32,
+    period: u32,
+) -> Result<usize, Refusal>
     ensures answer { λ r. ⌜ r ≡ answerOf (line ∷ refusal ∷ column ∷ period ∷ []) 34 34 (now (text .entry)) ⌝ }
     ensures text { λ r. ⌜ now (text .exit) ≡ after r (lineOf 88 (line ∷ refusal ∷ column ∷ period ∷ [])) (now (text .entry)) ⌝ }
     ensures law { λ r. ⌜ (isOk r ≡ true → FieldsBack (line ∷ refusal ∷ column ∷ period ∷ []) (now (text .exit))) ⌝ }

@@ -19,7 +19,7 @@ use Rattle.refusal.specs.declared.Refusal.{Refusal}
 use Rattle.refusal.specs.declared.Refusal.the-variants.{NoSuchPort}
 use Rattle.trace.specs.declared.events.Event.{Event}
 use Rattle.trace.specs.declared.events.Event.the-variants.{Arrival, Tick}
-use Rattle.trace.specs.declared.summary.Damage.{Damage}
+use Rattle.trace.specs.declared.damage.Damage.{Damage}
 use Rattle.trace.specs.declared.summary.Summary.{Summary}
 use Rattle.trace.specs.Line.{unless, shaped, headIn, eventIn}
 use Rattle.trace.specs.Text.{lineLength, linesOf, Cut, LosesNothing}
@@ -73,21 +73,21 @@ taken-push n es s e taken h i l =
     ⊎-elim
     (λ (before : i < length es). ap (λ x. errPart (eventFor n x)) (getD-append-left es (s ∷ []) [] i before) ∙ taken i before)
     (λ (last : length es ≤ i).
-        let at : length es ≡ i = omega (arith, length-push es s) in
-        ap (λ x. errPart (eventFor n x)) (getD-push es s [] i at) ∙ ap errPart h)
+    let at : length es ≡ i = omega (arith, length-push es s) in
+    ap (λ x. errPart (eventFor n x)) (getD-push es s [] i at) ∙ ap errPart h)
     (cases-lt i (length es))
 
 tally-push : (tally : List ℕ) (port p : ℕ) → port < length tally → getD (set tally port (getD tally port 0 + 1)) p 0 ≡ getD tally p 0 + cond (eqb port p) 1 0
 tally-push tally port p h =
     ⊎-elim
     (λ (e : p ≡ port).
-        ap (λ k. getD (set tally port (getD tally port 0 + 1)) k 0) e
-        ∙ getD-set-same tally port (getD tally port 0 + 1) 0 h
-        ∙ (λ i. getD tally (sym e i) 0 + cond (sym (eq-eqb port p (sym e)) i) 1 0))
+    ap (λ k. getD (set tally port (getD tally port 0 + 1)) k 0) e
+    ∙ getD-set-same tally port (getD tally port 0 + 1) 0 h
+    ∙ (λ i. getD tally (sym e i) 0 + cond (sym (eq-eqb port p (sym e)) i) 1 0))
     (λ (ne : p ≡ port → ⊥).
-        getD-set-other tally port p (getD tally port 0 + 1) 0 ne
-        ∙ omega arith
-        ∙ ap (λ b. getD tally p 0 + cond b 1 0) (sym (ne-eqb port p (λ e. ne (sym e)))))
+    getD-set-other tally port p (getD tally port 0 + 1) 0 ne
+    ∙ omega arith
+    ∙ ap (λ b. getD tally p 0 + cond b 1 0) (sym (ne-eqb port p (λ e. ne (sym e)))))
     (cases-eq p port)
 
 pub counts-more : (es : List (List ℕ)) (s : Summary) (line : List ℕ) (e : Event) → s .ports ≤ 256 → Counts es s → eventFor (s .ports) line ≡ Ok e → Counts (es ++ line ∷ []) (counted s e)
@@ -151,7 +151,7 @@ damaged-at : (first : List ℕ) (es more : List (List ℕ)) (line : List ℕ) (s
 damaged-at first es more line s h c refusal e =
     let at : s .lines + 1 - 1 ≡ suc (length es) = omega (arith, c .lines) in
     let found : errPart (eventFor (portsOf (headIn first)) (getD (es ++ line ∷ more) (length es) [])) ≡ Some refusal =
-          (λ j. errPart (eventFor (portsOf (h j)) (getD-at es line more [] (length es) refl j))) ∙ ap errPart e in
+    (λ j. errPart (eventFor (portsOf (h j)) (getD-at es line more [] (length es) refl j))) ∙ ap errPart e in
     record {
       within = (omega arith, omega (arith, c .lines, length-append es (line ∷ more)));
       here = ap (refusalAt (first ∷ (es ++ line ∷ more))) at ∙ found;
@@ -164,8 +164,8 @@ first-line-is t l r c k =
     ⊎-elim
     (λ (some : 0 < length t). ap (λ ls. getD ls 0 []) (k .next some))
     (λ (none : length t ≤ 0).
-        let empty : length t ≡ 0 = omega arith in
-        ap (λ ls. getD ls 0 []) (k .end empty) ∙ sym (c .front ∙ nil-from-length (take (lineLength t) t) (simp length-take (omega arith))))
+    let empty : length t ≡ 0 = omega arith in
+    ap (λ ls. getD ls 0 []) (k .end empty) ∙ sym (c .front ∙ nil-from-length (take (lineLength t) t) (simp length-take (omega arith))))
     (cases-lt 0 (length t))
 
 -- the rest is shorter by the line that was cut off
@@ -258,6 +258,6 @@ head-some text first rest h c ok =
     ⊎-elim
     (λ (some : 0 < length text). some)
     (λ (none : length text ≤ 0).
-        let empty : first ≡ [] = c .front ∙ nil-from-length (take (lineLength text) text) (simp length-take (omega arith)) in
-        absurd (err-ok (ap headIn (sym empty) ∙ ok)))
+    let empty : first ≡ [] = c .front ∙ nil-from-length (take (lineLength text) text) (simp length-take (omega arith)) in
+    absurd (err-ok (ap headIn (sym empty) ∙ ok)))
     (cases-lt 0 (length text))

@@ -103,8 +103,8 @@ among true value c n rest h u e =
     ⊎-elim
     (λ (some : 0 < value). u .digit (inr some) here)
     (λ (none : value ≤ 0).
-        let is : value ≡ 0 = omega arith in
-        no-leading-zero n c rest h (sym (ap (λ l. l ++ c ∷ rest) (ap decimal is ∙ decimal-digit 0 (omega arith))) ∙ e))
+    let is : value ≡ 0 = omega arith in
+    no-leading-zero n c rest h (sym (ap (λ l. l ++ c ∷ rest) (ap decimal is ∙ decimal-digit 0 (omega arith))) ∙ e))
     (cases-lt 0 value)
 
 before : (begun : Bool) (value c : ℕ) (rest more : List ℕ) → value < 2 ^ 32 → Untaken begun value c → digits begun value ++ c ∷ rest ≡ 32 ∷ more → ⊥

@@ -131,11 +131,11 @@ event-from s e ok =
     ⊎-elim
     (λ (t : eqb c 65 ≡ true). arrival-from s e (a .0) (eqb-true _ _ t) (sym (cond-true _ _ _ t) ∙ a .1))
     (λ (f : eqb c 65 ≡ false).
-        let other = sym (cond-false _ _ _ f) ∙ a .1 in
-        ⊎-elim
-        (λ (t : eqb c 84 ≡ true). tick-from s e (a .0) (eqb-true _ _ t) (sym (cond-true _ _ _ t) ∙ other))
-        (λ (g : eqb c 84 ≡ false). absurd (err-ok (sym (cond-false _ _ _ g) ∙ other)))
-        (cases-bool (eqb c 84)))
+    let other = sym (cond-false _ _ _ f) ∙ a .1 in
+    ⊎-elim
+    (λ (t : eqb c 84 ≡ true). tick-from s e (a .0) (eqb-true _ _ t) (sym (cond-true _ _ _ t) ∙ other))
+    (λ (g : eqb c 84 ≡ false). absurd (err-ok (sym (cond-false _ _ _ g) ∙ other)))
+    (cases-bool (eqb c 84)))
     (cases-bool (eqb c 65))
 
 from-event : (s : List ℕ) (e : Event) → IsEvent s e → eventIn s ≡ Ok e

@@ -19,7 +19,7 @@ use Rattle.refusal.specs.declared.Refusal.{Refusal}
 use Rattle.refusal.specs.declared.Refusal.the-variants.{NoSuchPort}
 use Rattle.trace.specs.declared.events.Event.{Event}
 use Rattle.trace.specs.declared.events.Event.the-variants.{Arrival, Tick}
-use Rattle.trace.specs.declared.summary.Damage.{Damage}
+use Rattle.trace.specs.declared.damage.Damage.{Damage}
 use Rattle.trace.specs.declared.summary.Summary.{Summary}
 use Rattle.trace.specs.Line.{unless, headIn, eventIn}
 

@@ -1,4 +1,5 @@
 // trace — reading a trace: its lines, its head, its events, and what a whole file holds.
+mod damage;
 mod events;
 mod field;
 mod inspection;
@@ -8,11 +9,11 @@ mod summary;
 #[cfg(test)]
 mod tests;
 
+pub use damage::Damage;
 pub use events::Event;
 pub use field::number;
 pub use inspection::inspect;
 pub use lines::cut;
 pub use reader::event;
 pub use reader::head;
-pub use summary::Damage;
 pub use summary::Summary;

@@ -68,7 +68,10 @@ fn arrival(line: &[u8]) -> Result<Event, Refusal>
     let Some(tag) = number(&line[9..17]) else {
         return Err(Refusal::Field(FieldPlace::Second));
     };
-    Ok(Event::Arrival { port: port as usize, tag })
+    Ok(Event::Arrival {
+        port: port as usize,
+        tag,
+    })
 }
 
 fn tick(line: &[u8]) -> Result<Event, Refusal>

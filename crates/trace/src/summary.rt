@@ -1,11 +1,6 @@
-// summary.rt — what is in a trace, and what is wrong with one.
+// summary.rt — what is in a trace.
 ghost use mathlib.Core.Path.{_≡_};
 ghost use lib.ListN.{getD};
-ghost use Rattle.trace.specs.Inspection.{Countable, counted};
-use crate::events::Event;
-use refusal::Refusal;
-use refusal::RefusalDebug;
-use refusal::RefusalPartialEq;
 
 // What is in a trace whose every line is taken.
 #[derive(Clone, Copy, Debug)]
@@ -20,31 +15,12 @@ pub struct Summary {
     pub(crate) tally: [usize; 256],
 }
 
-// The first line of a trace that is refused.
-#[derive(Clone, Copy, PartialEq, Eq, Debug)]
-pub struct Damage {
-    pub(crate) line: usize,
-    pub(crate) refusal: Refusal,
-}
-
 impl Summary {
-    // The letter of the tie rule.
-    pub fn rule(&self) -> u8
-        ensures { λ r. ⌜ r ≡ now (self .entry) .rule ⌝ }
+    // The letter of the tie rule, the ports and the cells that the trace opens with.
+    pub fn head(&self) -> (u8, usize, usize)
+        ensures { λ r. ⌜ r ≡ (now (self .entry) .rule, now (self .entry) .ports, now (self .entry) .cells) ⌝ }
     {
-        self.rule
-    }
-
-    pub fn ports(&self) -> usize
-        ensures { λ r. ⌜ r ≡ now (self .entry) .ports ⌝ }
-    {
-        self.ports
-    }
-
-    pub fn cells(&self) -> usize
-        ensures { λ r. ⌜ r ≡ now (self .entry) .cells ⌝ }
-    {
-        self.cells
+        (self.rule, self.ports, self.cells)
     }
 
     // The lines, the head among them.
@@ -71,37 +47,5 @@ impl Summary {
         ensures { λ r. ⌜ r ≡ getD (now (self .entry) .tally) port 0 ⌝ }
     {
         if port < 256 { self.tally[port] } else { 0 }
-    }
-}
-
-impl Summary {
-    // Counts one more line, which is this event.
-    pub(crate) fn count(&mut self, event: Event)
-        requires { ⌜ Countable (now self) event ⌝ }
-        ensures { λ _. ⌜ now (self .exit) ≡ counted (now (self .entry)) event ⌝ }
-    {
-        match event {
-            Event::Arrival { port, .. } => {
-                self.arrivals += 1;
-                self.tally[port] += 1;
-            }
-            Event::Tick => self.ticks += 1,
-        }
-        self.lines += 1;
-    }
-}
-
-impl Damage {
-    // The number of the line, counted from 1.
-    pub fn line(&self) -> usize
-        ensures { λ r. ⌜ r ≡ now (self .entry) .line ⌝ }
-    {
-        self.line
-    }
-
-    pub fn refusal(&self) -> Refusal
-        ensures { λ r. ⌜ r ≡ now (self .entry) .refusal ⌝ }
-    {
-        self.refusal
     }
 }

@@ -45,9 +45,18 @@ fn heads() -> Result<(), Fail> {
         (*b"L       2       3 ", Err(Refusal::LineShape)),
         (*b"l       2       3\n", Err(Refusal::Letter)),
         (*b"A       x       3\n", Err(Refusal::Letter)),
-        (*b"L                \n", Err(Refusal::Field(FieldPlace::First))),
-        (*b"L      02      x3\n", Err(Refusal::Field(FieldPlace::First))),
-        (*b"L     257      03\n", Err(Refusal::Field(FieldPlace::Second))),
+        (
+            *b"L                \n",
+            Err(Refusal::Field(FieldPlace::First)),
+        ),
+        (
+            *b"L      02      x3\n",
+            Err(Refusal::Field(FieldPlace::First)),
+        ),
+        (
+            *b"L     257      03\n",
+            Err(Refusal::Field(FieldPlace::Second)),
+        ),
         (*b"L       0       0\n", Err(Refusal::PortCount)),
         (*b"L     257       1\n", Err(Refusal::PortCount)),
         (*b"L       1       0\n", Err(Refusal::CellCount)),
@@ -64,19 +73,49 @@ fn heads() -> Result<(), Fail> {
 #[test]
 fn events() -> Result<(), Fail> {
     let table = [
-        (*b"A       0      11\n", Ok(Event::Arrival { port: 0, tag: 11 })),
-        (*b"A9999999999999999\n", Ok(Event::Arrival { port: 99_999_999, tag: 99_999_999 })),
+        (
+            *b"A       0      11\n",
+            Ok(Event::Arrival { port: 0, tag: 11 }),
+        ),
+        (
+            *b"A9999999999999999\n",
+            Ok(Event::Arrival {
+                port: 99_999_999,
+                tag: 99_999_999,
+            }),
+        ),
         (*b"T                \n", Ok(Event::Tick)),
         (*b"T                 ", Err(Refusal::LineShape)),
         (*b"a       0      11\n", Err(Refusal::Letter)),
         (*b"L       2       3\n", Err(Refusal::Letter)),
-        (*b"A                \n", Err(Refusal::Field(FieldPlace::First))),
-        (*b"A      00      00\n", Err(Refusal::Field(FieldPlace::First))),
-        (*b"A       0        \n", Err(Refusal::Field(FieldPlace::Second))),
-        (*b"A       0      1 \n", Err(Refusal::Field(FieldPlace::Second))),
-        (*b"T       0       0\n", Err(Refusal::Field(FieldPlace::First))),
-        (*b"T               0\n", Err(Refusal::Field(FieldPlace::Second))),
-        (*b"T               \t\n", Err(Refusal::Field(FieldPlace::Second))),
+        (
+            *b"A                \n",
+            Err(Refusal::Field(FieldPlace::First)),
+        ),
+        (
+            *b"A      00      00\n",
+            Err(Refusal::Field(FieldPlace::First)),
+        ),
+        (
+            *b"A       0        \n",
+            Err(Refusal::Field(FieldPlace::Second)),
+        ),
+        (
+            *b"A       0      1 \n",
+            Err(Refusal::Field(FieldPlace::Second)),
+        ),
+        (
+            *b"T       0       0\n",
+            Err(Refusal::Field(FieldPlace::First)),
+        ),
+        (
+            *b"T               0\n",
+            Err(Refusal::Field(FieldPlace::Second)),
+        ),
+        (
+            *b"T               \t\n",
+            Err(Refusal::Field(FieldPlace::Second)),
+        ),
     ];
     for (line, expected) in table {
         check_eq(event(&line), expected)?;
@@ -101,14 +140,28 @@ fn cuts() -> Result<(), Fail> {
 // The text of examples/two_ports.trace.
 #[test]
 fn whole_trace() -> Result<(), Fail> {
-    let text = b"L       2       3\nA       0      11\nA       0      12\nA       0      13\nA       1      21\nT                \nA       1      22\nA       1      23\nA       0      14\n";
+    let text =
+        b"L       2       3\nA       0      11\nA       0      12\nA       0      13\nA       1      21\nT                \nA       1      22\nA       1      23\nA       0      14\n";
     let Ok(summary) = inspect(text) else {
         return Err(Fail::new("refused"));
     };
-    check_eq((summary.rule(), summary.ports(), summary.cells()), (b'L', 2, 3))?;
-    check_eq((summary.lines(), summary.arrivals(), summary.ticks()), (9, 7, 1))?;
-    check_eq((summary.arrivals_for(0), summary.arrivals_for(1), summary.arrivals_for(2)), (4, 3, 0))?;
-    check_eq((summary.arrivals_for(255), summary.arrivals_for(256)), (0, 0))
+    check_eq(summary.head(), (b'L', 2, 3))?;
+    check_eq(
+        (summary.lines(), summary.arrivals(), summary.ticks()),
+        (9, 7, 1),
+    )?;
+    check_eq(
+        (
+            summary.arrivals_for(0),
+            summary.arrivals_for(1),
+            summary.arrivals_for(2),
+        ),
+        (4, 3, 0),
+    )?;
+    check_eq(
+        (summary.arrivals_for(255), summary.arrivals_for(256)),
+        (0, 0),
+    )
 }
 
 fn first_refused(text: &[u8]) -> Option<(usize, Refusal)> {
@@ -121,14 +174,36 @@ fn first_refused(text: &[u8]) -> Option<(usize, Refusal)> {
 #[test]
 fn damaged_traces() -> Result<(), Fail> {
     // the text of examples/damaged.trace
-    let damaged = b"O       3       5\nA       0       1\nA       2       2\nA       100000003\nT                \nA       1       4\n";
-    check_eq(first_refused(damaged), Some((4, Refusal::Field(FieldPlace::Second))))?;
+    let damaged =
+        b"O       3       5\nA       0       1\nA       2       2\nA       100000003\nT                \nA       1       4\n";
+    check_eq(
+        first_refused(damaged),
+        Some((4, Refusal::Field(FieldPlace::Second))),
+    )?;
     check_eq(first_refused(b""), Some((1, Refusal::LineShape)))?;
-    check_eq(first_refused(b"L       2       3"), Some((1, Refusal::LineShape)))?;
+    check_eq(
+        first_refused(b"L       2       3"),
+        Some((1, Refusal::LineShape)),
+    )?;
     check_eq(first_refused(b"L       2       3\n"), None)?;
-    check_eq(first_refused(b"L       2       3\nA       1       0\n"), None)?;
-    check_eq(first_refused(b"L       2       3\nA       2       0\n"), Some((2, Refusal::NoSuchPort)))?;
-    check_eq(first_refused(b"L       2       3\n\n"), Some((2, Refusal::LineShape)))?;
-    check_eq(first_refused(b"L       2       3\nT                "), Some((2, Refusal::LineShape)))?;
-    check_eq(first_refused(b"L       2       3\nL       2       3\n"), Some((2, Refusal::Letter)))
+    check_eq(
+        first_refused(b"L       2       3\nA       1       0\n"),
+        None,
+    )?;
+    check_eq(
+        first_refused(b"L       2       3\nA       2       0\n"),
+        Some((2, Refusal::NoSuchPort)),
+    )?;
+    check_eq(
+        first_refused(b"L       2       3\n\n"),
+        Some((2, Refusal::LineShape)),
+    )?;
+    check_eq(
+        first_refused(b"L       2       3\nT                "),
+        Some((2, Refusal::LineShape)),
+    )?;
+    check_eq(
+        first_refused(b"L       2       3\nL       2       3\n"),
+        Some((2, Refusal::Letter)),
+    )
 }

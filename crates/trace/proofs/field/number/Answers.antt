@@ -35,17 +35,17 @@ loop-octet-again-then-not-begun c =
 pub returns-then-value-eq0 : need.returns-then-value-eq0
 returns-then-value-eq0 c =
     let none = stuck-at (c .args .octets .now) _ _ _ (c .loop-octet-test .taken) (c .loop-octet .inv) (record {
-          space = not-space _ (c .else-octet-eq32 .either);
-          digit = λ go _. ⊎-elim (λ e. both-ways _ e (c .if-begun .taken)) (λ (some : 0 < c .loop-octet .value). omega (arith, c .if-value-eq0 .taken)) go;
-        }) in
+      space = not-space _ (c .else-octet-eq32 .either);
+      digit = λ go _. ⊎-elim (λ e. both-ways _ e (c .if-begun .taken)) (λ (some : 0 < c .loop-octet .value). omega (arith, c .if-value-eq0 .taken)) go;
+    }) in
     record { value = number-from-shows _ None none; law = none }
 
 pub returns-then-octet-lt48 : need.returns-then-octet-lt48
 returns-then-octet-lt48 c =
     let none = stuck-at (c .args .octets .now) _ _ _ (c .loop-octet-test .taken) (c .loop-octet .inv) (record {
-          space = not-space _ (c .else-octet-eq32 .either);
-          digit = λ _ d. elim (c .then-octet-lt48 .came) [ then-octet-lt48·by·then-octet-lt48 w ↦ omega (arith, w .if-octet-lt48 .taken) | then-octet-lt48·by·else-octet-lt48·then-octet-gt57 w ↦ omega (arith, w .if-octet-gt57 .taken) ];
-        }) in
+      space = not-space _ (c .else-octet-eq32 .either);
+      digit = λ _ d. elim (c .then-octet-lt48 .came) [ then-octet-lt48·by·then-octet-lt48 w ↦ omega (arith, w .if-octet-lt48 .taken) | then-octet-lt48·by·else-octet-lt48·then-octet-gt57 w ↦ omega (arith, w .if-octet-gt57 .taken) ];
+    }) in
     record { value = number-from-shows _ None none; law = none }
 
 pub mul-value : need.mul-value
