@@ -10,13 +10,17 @@ use trace::Summary;
 const EVENTS: usize = 90_000_000;
 
 fn main(rt: LibcRuntime) -> Result<(), AnyError> {
+    rt.report(run(&rt))
+}
+
+fn run(rt: &LibcRuntime) -> Result<(), AnyError> {
     let mut text = Vec::new(rt.alloc());
     rt.stdin().read_to_end(&mut text)?;
     match trace::inspect(text.as_slice()) {
-        Ok(summary) => Ok(print_summary(&rt, &summary)?),
+        Ok(summary) => Ok(print_summary(rt, &summary)?),
         Err(damage) => {
-            print_damage(&rt, &damage)?;
-            Err("the trace is damaged".into())
+            print_damage(rt, &damage)?;
+            Err("a line of the trace is refused".into())
         }
     }
 }

@@ -23,7 +23,8 @@ use Rattle.trace.specs.declared.damage.Damage.{Damage}
 use Rattle.trace.specs.declared.summary.Summary.{Summary}
 use Rattle.trace.specs.Line.{unless, shaped, headIn, eventIn}
 use Rattle.trace.specs.Text.{lineLength, linesOf, Cut, LosesNothing}
-use Rattle.trace.specs.Inspection.{forPorts, eventFor, portsOf, refusalAt, isArrival, isArrivalFor, isTick, count, counted, Placed, Countable, Whole, Damaged, AddsUp}
+use Rattle.trace.specs.Counting.{counted, Countable}
+use Rattle.trace.specs.Inspection.{forPorts, eventFor, portsOf, refusalAt, isArrival, isArrivalFor, isTick, howMany, Whole, Damaged, AddsUp}
 use Rattle.trace.proofs.Cutting.{line-some, no-line}
 use Rattle.trace.proofs.Verdicts.{err-ok, unless-ok, ok-same}
 
@@ -31,9 +32,9 @@ use Rattle.trace.proofs.Verdicts.{err-ok, unless-ok, ok-same}
 pub record Counts (es : List (List ℕ)) (s : Summary) : Type 0 where
   pub taken : (i : ℕ) → i < length es → errPart (eventFor (s .ports) (getD es i [])) ≡ None
   pub lines : s .lines ≡ 1 + length es
-  pub arrivals : s .arrivals ≡ count isArrival es
-  pub ticks : s .ticks ≡ count isTick es
-  pub tally : (p : ℕ) → p < 256 → getD (s .tally) p 0 ≡ count (isArrivalFor p) es
+  pub arrivals : s .arrivals ≡ howMany isArrival es
+  pub ticks : s .ticks ≡ howMany isTick es
+  pub tally : (p : ℕ) → p < 256 → getD (s .tally) p 0 ≡ howMany (isArrivalFor p) es
   pub wide : length (s .tally) ≡ 256
   pub adds : AddsUp s
 
@@ -64,9 +65,9 @@ unfolding eventFor
 event-taken n s e h = for-ports n (eventIn s) e h
 
 -- one more line
-count-push : (kind : Result Event Refusal → Bool) (es : List (List ℕ)) (s : List ℕ) (e : Event) → eventIn s ≡ Ok e → count kind (es ++ s ∷ []) ≡ count kind es + cond (kind (Ok e)) 1 0
+count-push : (kind : Result Event Refusal → Bool) (es : List (List ℕ)) (s : List ℕ) (e : Event) → eventIn s ≡ Ok e → howMany kind (es ++ s ∷ []) ≡ howMany kind es + cond (kind (Ok e)) 1 0
 count-push kind es s e h =
-    sumBy-push (λ l. cond (kind (eventIn l)) 1 0) es s ∙ ap (λ r. count kind es + cond (kind r) 1 0) h
+    sumBy-push (λ l. cond (kind (eventIn l)) 1 0) es s ∙ ap (λ r. howMany kind es + cond (kind r) 1 0) h
 
 taken-push : (n : ℕ) (es : List (List ℕ)) (s : List ℕ) (e : Event) → ((i : ℕ) → i < length es → errPart (eventFor n (getD es i [])) ≡ None) → eventFor n s ≡ Ok e → (i : ℕ) → i < length (es ++ s ∷ []) → errPart (eventFor n (getD (es ++ s ∷ []) i [])) ≡ None
 taken-push n es s e taken h i l =

@@ -1,14 +1,15 @@
 -- What is in a trace, and which of its lines is refused first. Assumes nothing.
 --     eventFor n s        the event that the line s is, in a trace for n ports
 --     refusalAt ls i      why line i of the lines ls is refused, if it is; i counts from 0
+--     howMany kind ls     how many of the lines ls are events of this kind
 --     Whole ls s          none of the lines is refused, and s is what is in them
 --     Damaged ls d        d is the first line that is refused, and why
 use mathlib.Core.Path.{_≡_}
 use mathlib.Core.Bool.{Bool, true, false}
 use mathlib.Core.List.{List, [], _∷_}
-use Prim.Native.Nat.{ℕ, zero, suc, _+_, _-_, _^_, _≤_, _<_, max}
+use Prim.Native.Nat.{ℕ, zero, suc, _+_, _-_, _≤_, _<_, max}
 use lib.Dec.{eqb, ltb}
-use lib.ListN.{length, getD, set, drop}
+use lib.ListN.{length, getD, drop}
 use Rattle.std.specs.Results.{errPart}
 use Rattle.std.specs.shelf.Lists.{countBy, sum}
 use Rattle.std.specs.declared.option.Option.{Option}
@@ -57,18 +58,18 @@ isTick (Ok (Arrival port tag)) = false
 isTick (Ok Tick) = true
 isTick (Err refusal) = false
 
--- how many of the lines are events of this kind
-abbrev pub count : (Result Event Refusal → Bool) → List (List ℕ) → ℕ
-count kind ls = countBy (λ s. kind (eventIn s)) ls
+-- a line that is refused is no event
+abbrev pub howMany : (Result Event Refusal → Bool) → List (List ℕ) → ℕ
+howMany kind ls = countBy (λ s. kind (eventIn s)) ls
 
 -- drop 1 ls: the lines after the head
 pub record Whole (ls : List (List ℕ)) (s : Summary) : Type 0 where
   pub head : headIn (getD ls 0 []) ≡ Ok (s .rule, s .ports, s .cells)
   pub taken : (i : ℕ) → i < length ls → refusalAt ls i ≡ None
   pub lines : s .lines ≡ length ls
-  pub arrivals : s .arrivals ≡ count isArrival (drop 1 ls)
-  pub ticks : s .ticks ≡ count isTick (drop 1 ls)
-  pub tally : (p : ℕ) → p < 256 → getD (s .tally) p 0 ≡ count (isArrivalFor p) (drop 1 ls)
+  pub arrivals : s .arrivals ≡ howMany isArrival (drop 1 ls)
+  pub ticks : s .ticks ≡ howMany isTick (drop 1 ls)
+  pub tally : (p : ℕ) → p < 256 → getD (s .tally) p 0 ≡ howMany (isArrivalFor p) (drop 1 ls)
 
 -- lines are named from 1; a text with no line is refused at line 1
 pub record Damaged (ls : List (List ℕ)) (d : Damage) : Type 0 where
@@ -85,36 +86,3 @@ Inspected ls (Err d) = Damaged ls d
 pub record AddsUp (s : Summary) : Type 0 where
   pub lines : s .lines ≡ 1 + s .arrivals + s .ticks
   pub ports : s .arrivals ≡ sum (s .tally)
-
--- what one more event makes of a summary
-abbrev pub counted : Summary → Event → Summary
-counted s (Arrival port tag) = record {
-  rule = s .rule;
-  ports = s .ports;
-  cells = s .cells;
-  lines = s .lines + 1;
-  arrivals = s .arrivals + 1;
-  ticks = s .ticks;
-  tally = set (s .tally) port (getD (s .tally) port 0 + 1);
-}
-counted s Tick = record {
-  rule = s .rule;
-  ports = s .ports;
-  cells = s .cells;
-  lines = s .lines + 1;
-  arrivals = s .arrivals;
-  ticks = s .ticks + 1;
-  tally = s .tally;
-}
-
--- the tally has a place for the event's port, which holds no more than all arrivals
-abbrev pub Placed : Summary → Event → Type 0
-Placed s (Arrival port tag) = (port < 256) × (getD (s .tally) port 0 ≤ s .arrivals)
-Placed s Tick = Unit {0}
-
--- no count passes the number of lines, and there is room for one more line
-pub record Countable (s : Summary) (e : Event) : Type 0 where
-  pub arrivals : s .arrivals < s .lines
-  pub ticks : s .ticks < s .lines
-  pub lines : s .lines + 1 < 2 ^ 64
-  pub placed : Placed s e

@@ -1,3 +1,4 @@
+pub mod Counting
 pub mod Field
 pub mod Inspection
 pub mod Line

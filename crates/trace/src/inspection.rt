@@ -2,7 +2,8 @@
 ghost use mathlib.Core.Path.{_≡_};
 ghost use Rattle.std.specs.Vec.{made};
 ghost use Rattle.trace.specs.Text.{linesOf};
-ghost use Rattle.trace.specs.Inspection.{eventFor, Inspected, AddsUp, Countable, counted};
+ghost use Rattle.trace.specs.Counting.{Countable, counted};
+ghost use Rattle.trace.specs.Inspection.{eventFor, Inspected, AddsUp};
 use crate::damage::Damage;
 use crate::events::Event;
 use crate::lines::cut;
