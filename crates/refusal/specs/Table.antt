@@ -1,6 +1,5 @@
 -- The table of refusals: the number of each, and the column that it blames. Assumes nothing.
 use Prim.Native.Nat.{ℕ}
-use Rattle.refusal.specs.declared.FieldPlace.{FieldPlace}
 use Rattle.refusal.specs.declared.FieldPlace.the-variants.{First, Second}
 use Rattle.refusal.specs.declared.Refusal.{Refusal}
 use Rattle.refusal.specs.declared.Refusal.the-variants.{PortCount, CellCount, NotInState, NoSuchPort, FewPlaces, EventsSpent, ShortLists, LineShape, Letter, Field, ShortText, NoSpellLeft, IdBeyondCapacity, IdInUse, IdNotInUse, EmptyHeap, ShelterPort, NumberTooLarge}

@@ -1,13 +1,13 @@
 -- How a line is put together in a text space, number by number. Assumes nothing.
 use mathlib.Core.Path.{_≡_, refl, sym, ap, subst, _∙_}
-use mathlib.Core.Bool.{Bool, true, false, _&&_}
+use mathlib.Core.Bool.{true, false, _&&_}
 use mathlib.Core.List.{List, [], _∷_, _++_, append-assoc}
 use Prim.Native.Nat.{ℕ, zero, suc, _+_, _*_, _≤_, _<_}
 use native.Mathlib.Omega.{arith}
 use lib.Dec.{leb}
-use lib.ListN.{length, getD, set, take, drop, length-append, length-set}
+use lib.ListN.{length, getD, set, take, drop, length-append}
 use Rattle.std.specs.Joined.{joined}
-use Rattle.std.proofs.shelf.Lists.{joined-more, take-more, take-at, drop-at, drop-drop, drop-more, drop-all, drop-set, drop-set-lt, set-at, length-push, length-drop, take-all}
+use Rattle.std.proofs.shelf.Lists.{joined-more, take-at, drop-at, drop-drop, drop-more, drop-all, drop-set, drop-set-lt, set-at, length-push, take-all}
 use Rattle.std.proofs.shelf.Tests.{and-parts, leb-true, le-leb, lt-leb}
 use Rattle.trace.specs.Field.{greatest, field}
 use Rattle.trace.specs.Line.{lineOf}

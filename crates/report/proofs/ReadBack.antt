@@ -1,6 +1,6 @@
 -- What was written is read back. Assumes nothing.
-use mathlib.Core.Path.{_≡_, refl, sym, ap, subst, _∙_}
-use mathlib.Core.Bool.{Bool, true, false, cond, _&&_}
+use mathlib.Core.Path.{_≡_, refl, sym, ap, _∙_}
+use mathlib.Core.Bool.{true}
 use mathlib.Core.List.{List, [], _∷_, _++_, append-assoc}
 use Prim.Native.Nat.{ℕ, zero, suc, _+_, _-_, _*_, _≤_, _<_}
 use native.Mathlib.Omega.{arith}
@@ -11,13 +11,12 @@ use Rattle.std.specs.Joined.{joined}
 use Rattle.std.specs.Results.{isOk}
 use Rattle.std.specs.declared.result.Result.{Result}
 use Rattle.std.specs.declared.result.Result.the-variants.{Ok, Err}
-use Rattle.std.specs.declared.option.Option.the-variants.{Some}
 use Rattle.std.proofs.shelf.Lists.{take-at, drop-at, drop-drop}
-use Rattle.std.proofs.shelf.Tests.{and-parts, and-from, leb-true, le-leb, lt-leb, cond-true, cond-false, both-ways}
+use Rattle.std.proofs.shelf.Tests.{and-parts, le-leb, lt-leb, cond-true, cond-false, both-ways}
 use Rattle.refusal.specs.declared.Refusal.{Refusal}
-use Rattle.refusal.specs.declared.Refusal.the-variants.{ShortText, NumberTooLarge}
+use Rattle.refusal.specs.declared.Refusal.the-variants.{ShortText}
 use Rattle.trace.specs.Field.{greatest, field, numberIn}
-use Rattle.trace.specs.Line.{lineOf, fieldAt, opens, inRange, headIn}
+use Rattle.trace.specs.Line.{lineOf, fieldAt, headIn}
 use Rattle.trace.proofs.Fields.{length-field, number-in-field, same-from-field}
 use Rattle.trace.proofs.Verdicts.{head-back, in-range}
 use Rattle.report.specs.Written.{allFit, answerOf, after, NumberBack, FieldsBack, HeadBack, Apart}

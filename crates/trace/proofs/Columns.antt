@@ -1,16 +1,14 @@
 -- Where the letter, the fields and the octet 10 of a line stand. Assumes nothing.
-use mathlib.Core.Path.{_≡_, refl, sym, ap, _∙_}
+use mathlib.Core.Path.{_≡_, sym, ap, _∙_}
 use mathlib.Core.Bool.{true}
 use mathlib.Core.List.{List, [], _∷_, _++_, append-assoc}
-use Prim.Native.Nat.{ℕ, zero, suc, _+_, _*_, _≤_, _<_}
+use Prim.Native.Nat.{ℕ, _+_}
 use native.Mathlib.Omega.{arith}
 use lib.ListN.{length, getD, take, drop, length-append, take-append-drop}
-use Rattle.std.specs.Joined.{joined}
 use Rattle.std.proofs.shelf.Lists.{drop-more, drop-drop, drop-all, take-at, drop-at, getD-at, getD-append-right}
 use Rattle.std.proofs.shelf.Tests.{and-parts, and-from, eqb-true, eq-eqb}
-use Rattle.trace.specs.Field.{greatest, field}
+use Rattle.trace.specs.Field.{field}
 use Rattle.trace.specs.Line.{lineOf, fieldAt, shaped}
-use Rattle.trace.proofs.Fields.{length-field}
 
 -- a letter, two parts and octet 10
 abbrev pub framed : ℕ → List ℕ → List ℕ → List ℕ

@@ -1,17 +1,14 @@
 -- The decimal digits of a number, one more at the end. Assumes nothing.
-use mathlib.Core.Path.{_≡_, refl, sym, ap, subst, _∙_}
-use mathlib.Core.Bool.{true, false, cond}
-use mathlib.Core.List.{List, [], _∷_, _++_}
+use mathlib.Core.Path.{_≡_, subst, _∙_}
+use mathlib.Core.List.{[], _∷_, _++_}
 use Prim.Native.Nat.{ℕ, _+_, _-_, _*_, _/_, _%_, _^_, _≤_, _<_}
 use native.Mathlib.Omega.{arith}
-use lib.Dec.{eqb}
 use lib.ListN.{length, getD}
 use borrow.Author.Needs.{needs}
 use Rattle.std.specs.Written.{decimal}
 use Rattle.std.specs.Text.{In}
-use Rattle.std.specs.shelf.Text.{allDigits}
-use Rattle.std.proofs.shelf.Numerals.{Numerals, numerals-by-fold, tells-allDigits, tells-by-index, value-short}
-use Rattle.std.proofs.shelf.Decimals.{decimal-digit, decimal-step, decimal-some, digits-decimal, value-decimal, first-decimal}
+use Rattle.std.proofs.shelf.Numerals.{Numerals, numerals-by-fold, tells-by-index, value-short}
+use Rattle.std.proofs.shelf.Decimals.{decimal-step, digits-decimal, value-decimal}
 use Rattle.trace.specs.Field.{readOn}
 
 -- reading with `readOn`, in the shelf's terms

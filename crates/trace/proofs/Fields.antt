@@ -1,12 +1,11 @@
 -- Fields: their length, and that reading one gives the number back. Assumes nothing.
-use mathlib.Core.Path.{_≡_, refl, sym, ap, subst, _∙_}
-use mathlib.Core.Bool.{Bool, true, false, cond, _&&_}
-use mathlib.Core.List.{List, [], _∷_, _++_}
-use Prim.Native.Nat.{ℕ, zero, suc, _+_, _-_, _^_, _≤_, _<_}
+use mathlib.Core.Path.{_≡_, refl, sym, ap, _∙_}
+use mathlib.Core.Bool.{true, _&&_}
+use mathlib.Core.List.{List, _++_}
+use Prim.Native.Nat.{ℕ, zero, suc, _+_, _-_, _≤_}
 use native.Mathlib.Omega.{arith}
 use lib.Dec.{leb}
 use lib.ListN.{length, replicate, length-append, length-replicate}
-use borrow.Author.Needs.{needs}
 use Rattle.std.specs.Written.{decimal}
 use Rattle.std.specs.shelf.Text.{sameBytes}
 use Rattle.std.specs.declared.option.Option.{Option}
@@ -14,7 +13,7 @@ use Rattle.std.specs.declared.option.Option.the-variants.{Some, None}
 use Rattle.std.proofs.shelf.Decimals.{length-decimal-le}
 use Rattle.std.proofs.shelf.Equals.{sameBytes-decides}
 use Rattle.std.proofs.shelf.Tests.{le-leb, leb-true, and-from, and-parts, cond-true, cond-both, both-ways}
-use Rattle.trace.specs.Field.{greatest, field, justified, readOn, numberIn, Shows}
+use Rattle.trace.specs.Field.{greatest, field, readOn, numberIn, Shows}
 use Rattle.trace.proofs.Digits.{read-decimal}
 
 pub length-field : (n : ℕ) → n ≤ greatest → length (field n) ≡ 8

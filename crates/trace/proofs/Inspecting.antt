@@ -1,14 +1,13 @@
 -- What the lines that were gone through have in them, one line after the other. Assumes nothing.
 use mathlib.Core.Path.{_≡_, refl, sym, ap, subst, _∙_}
-use mathlib.Core.Logic.{_⊎_, inl, inr, ⊎-elim}
-use mathlib.Core.Bool.{Bool, true, false, cond}
+use mathlib.Core.Logic.{_⊎_, ⊎-elim}
+use mathlib.Core.Bool.{Bool, cond}
 use mathlib.Core.List.{List, [], _∷_, _++_, append-assoc, append-nil}
 use Prim.Native.Nat.{ℕ, zero, suc, _+_, _-_, _^_, _≤_, _<_}
 use native.Mathlib.Omega.{arith}
 use lib.Dec.{eqb, ltb}
-use lib.ListN.{length, getD, set, take, drop, replicate, length-set, length-take, length-drop, length-append, getD-replicate}
+use lib.ListN.{length, getD, set, take, replicate, length-set, length-take, length-drop, length-append, getD-replicate}
 use Rattle.std.specs.Results.{errPart}
-use Rattle.std.specs.shelf.Lists.{countBy, sum}
 use Rattle.std.specs.declared.option.Option.the-variants.{Some, None}
 use Rattle.std.specs.declared.result.Result.{Result}
 use Rattle.std.specs.declared.result.Result.the-variants.{Ok, Err}
@@ -19,9 +18,8 @@ use Rattle.refusal.specs.declared.Refusal.{Refusal}
 use Rattle.refusal.specs.declared.Refusal.the-variants.{NoSuchPort}
 use Rattle.trace.specs.declared.events.Event.{Event}
 use Rattle.trace.specs.declared.events.Event.the-variants.{Arrival, Tick}
-use Rattle.trace.specs.declared.damage.Damage.{Damage}
 use Rattle.trace.specs.declared.summary.Summary.{Summary}
-use Rattle.trace.specs.Line.{unless, shaped, headIn, eventIn}
+use Rattle.trace.specs.Line.{shaped, headIn, eventIn}
 use Rattle.trace.specs.Text.{lineLength, linesOf, Cut, LosesNothing}
 use Rattle.trace.specs.Counting.{counted, Countable}
 use Rattle.trace.specs.Inspection.{forPorts, eventFor, portsOf, refusalAt, isArrival, isArrivalFor, isTick, howMany, Whole, Damaged, AddsUp}

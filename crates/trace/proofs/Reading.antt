@@ -5,7 +5,6 @@ use mathlib.Core.Bool.{Bool, true, false}
 use mathlib.Core.List.{List, [], _∷_, _++_, append-assoc, append-nil}
 use Prim.Native.Nat.{ℕ, zero, suc, _+_, _-_, _*_, _^_, _≤_, _<_}
 use native.Mathlib.Omega.{arith}
-use native.Mathlib.Nat.{zero-mul, zero-add}
 use lib.ListN.{length, getD, take, drop, replicate, length-append, length-replicate, length-take, take-append-drop}
 use Rattle.std.specs.Written.{decimal}
 use Rattle.std.specs.Text.{In}
@@ -45,23 +44,20 @@ front-room bs true value f h =
     let long = ap length (f .is) ∙ length-append (replicate (f .spaces) 32) (decimal value) in
     short value 7 (omega (arith, f .fits)) (omega arith)
 
--- a digit put after the digits so far, where it is no leading zero's follower
-digits-push : (begun : Bool) (value c : ℕ) → (begun ≡ false → value ≡ 0) → (begun ≡ false) ⊎ (0 < value) → value < 2 ^ 32 → 48 ≤ c → c ≤ 57 → digits begun value ++ c ∷ [] ≡ decimal (value * 10 + (c - 48))
-digits-push false value c idle go small low high =
-    let none : value * 10 + (c - 48) ≡ c - 48 = omega (arith, idle refl) in
-    let back : 48 + (c - 48) ≡ c = omega arith in
-    sym (ap decimal none ∙ decimal-digit (c - 48) (omega arith) ∙ ap (λ x. x ∷ []) back)
-digits-push true value c idle (inl e) small low high = absurd (true≢false e)
-digits-push true value c idle (inr some) small low high =
-    let back : 48 + (c - 48) ≡ c = omega arith in
-    sym (decimal-push value (c - 48) some (omega arith) small ∙ ap (λ x. decimal value ++ x ∷ []) back)
+-- a digit put after the digits so far, unless those are a zero
+digits-push : (begun : Bool) (value d : ℕ) → (begun ≡ false → value ≡ 0) → (begun ≡ false) ⊎ (0 < value) → value < 2 ^ 32 → d < 10 → digits begun value ++ (48 + d) ∷ [] ≡ decimal (value * 10 + d)
+digits-push false value d idle go small h =
+    let none : value * 10 + d ≡ d = omega (arith, idle refl) in
+    sym (ap decimal none ∙ decimal-digit d h)
+digits-push true value d idle (inl e) small h = absurd (true≢false e)
+digits-push true value d idle (inr some) small h = sym (decimal-push value d some h small)
 
-pub front-digit : (bs : List ℕ) (begun : Bool) (value c : ℕ) → Front bs begun value → length bs ≤ 7 → (begun ≡ false) ⊎ (0 < value) → 48 ≤ c → c ≤ 57 → Front (bs ++ c ∷ []) true (value * 10 + (c - 48))
-front-digit bs begun value c f h go low high =
+pub front-digit : (bs : List ℕ) (begun : Bool) (value d : ℕ) → Front bs begun value → length bs ≤ 7 → (begun ≡ false) ⊎ (0 < value) → d < 10 → Front (bs ++ (48 + d) ∷ []) true (value * 10 + d)
+front-digit bs begun value d f h go low =
     let room = front-room bs begun value f h in
     record {
       spaces = f .spaces;
-      is = ap (λ l. l ++ c ∷ []) (f .is) ∙ append-assoc (replicate (f .spaces) 32) (digits begun value) (c ∷ []) ∙ ap (λ l. replicate (f .spaces) 32 ++ l) (digits-push begun value c (f .idle) go (f .fits) low high);
+      is = ap (λ l. l ++ (48 + d) ∷ []) (f .is) ∙ append-assoc (replicate (f .spaces) 32) (digits begun value) ((48 + d) ∷ []) ∙ ap (λ l. replicate (f .spaces) 32 ++ l) (digits-push begun value d (f .idle) go (f .fits) low);
       idle = λ e. absurd (true≢false e);
       fits = omega arith;
     }
@@ -75,7 +71,7 @@ front-all bs value f h =
     let count : f .spaces ≡ 8 - length (decimal value) = omega arith in
     (omega (arith, short value 8 (omega (arith, f .fits)) (omega arith)), f .is ∙ ap (λ k. replicate k 32 ++ decimal value) count)
 
--- an octet that shows nothing, or a digit, as it stands first in the digits of n
+-- the first of the digits of n is a digit
 first-digit : (n c : ℕ) (rest : List ℕ) → n ≤ greatest → c ∷ rest ≡ decimal n → In 48 57 c
 first-digit n c rest h e =
     subst (In 48 57) (sym (ap (λ l. getD l 0 0) e)) (digit-at n 0 (omega arith) (decimal-some n (omega arith)))
@@ -91,17 +87,19 @@ no-leading-zero n c rest h e =
 -- the reader does not take the octet c
 pub record Untaken (begun : Bool) (value c : ℕ) : Type 0 where
   pub space : begun ≡ false → c ≡ 32 → ⊥
-  pub digit : (begun ≡ false) ⊎ (0 < value) → In 48 57 c → ⊥
+  pub digit : (begun ≡ false) ⊎ (0 < value) → (d : ℕ) → d < 10 → c ≡ 48 + d → ⊥
 
 -- such an octet stands in no field: not among the digits, not where a space should be
 among : (begun : Bool) (value c n : ℕ) (rest : List ℕ) → n ≤ greatest → Untaken begun value c → digits begun value ++ c ∷ rest ≡ decimal n → ⊥
-among false value c n rest h u e = u .digit (inl refl) (first-digit n c rest h e)
+among false value c n rest h u e =
+    let here = first-digit n c rest h e in
+    u .digit (inl refl) (c - 48) (omega arith) (omega arith)
 among true value c n rest h u e =
     let k = length (decimal value) in
     let long : length (decimal n) ≡ k + suc (length rest) = ap length (sym e) ∙ length-append (decimal value) (c ∷ rest) in
     let here : In 48 57 c = subst (In 48 57) (ap (λ l. getD l k 0) (sym e) ∙ getD-at (decimal value) c rest 0 k refl) (digit-at n k (omega arith) (omega arith)) in
     ⊎-elim
-    (λ (some : 0 < value). u .digit (inr some) here)
+    (λ (some : 0 < value). u .digit (inr some) (c - 48) (omega arith) (omega arith))
     (λ (none : value ≤ 0).
     let is : value ≡ 0 = omega arith in
     no-leading-zero n c rest h (sym (ap (λ l. l ++ c ∷ rest) (ap decimal is ∙ decimal-digit 0 (omega arith))) ∙ e))
@@ -150,10 +148,10 @@ module _ (bs : List ℕ) (i : ℕ) (begun : Bool) (value : ℕ) (inside : i < le
       (subst (λ b. Front (take i bs ++ getD bs i 0 ∷ []) b value) (sym e)
       (subst (λ x. Front (take i bs ++ x ∷ []) false value) (sym c) (front-space (take i bs) value (subst (λ b. Front (take i bs) b value) e f))))
 
-  pub digit-taken : i < 8 → (begun ≡ false) ⊎ (0 < value) → 48 ≤ getD bs i 0 → getD bs i 0 ≤ 57 → Front (take (i + 1) bs) true (value * 10 + (getD bs i 0 - 48))
-  digit-taken few go low high =
-      subst (λ l. Front l true (value * 10 + (getD bs i 0 - 48))) (sym (take-more bs i 0 inside))
-      (front-digit (take i bs) begun value (getD bs i 0) f (simp length-take (omega arith)) go low high)
+  pub digit-taken : (d : ℕ) → i < 8 → (begun ≡ false) ⊎ (0 < value) → d < 10 → getD bs i 0 ≡ 48 + d → Front (take (i + 1) bs) true (value * 10 + d)
+  digit-taken d few go low c =
+      subst (λ l. Front l true (value * 10 + d)) (sym (take-more bs i 0 inside ∙ ap (λ x. take i bs ++ x ∷ []) c))
+      (front-digit (take i bs) begun value d f (simp length-take (omega arith)) go low)
 
   pub room-at : i < 8 → value < 10000000
   room-at few = front-room (take i bs) begun value f (simp length-take (omega arith))

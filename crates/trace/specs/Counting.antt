@@ -1,5 +1,5 @@
 -- How a summary counts one line more: the step of the code that goes through a trace. Nothing in a public contract cites it. Assumes nothing.
-use Prim.Native.Nat.{ℕ, _+_, _^_, _≤_, _<_}
+use Prim.Native.Nat.{_+_, _^_, _≤_, _<_}
 use lib.ListN.{getD, set}
 use Rattle.trace.specs.declared.events.Event.{Event}
 use Rattle.trace.specs.declared.events.Event.the-variants.{Arrival, Tick}

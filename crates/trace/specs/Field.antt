@@ -6,7 +6,7 @@
 use mathlib.Core.Path.{_≡_}
 use mathlib.Core.Bool.{cond, _&&_}
 use mathlib.Core.List.{List, [], _∷_, _++_}
-use Prim.Native.Nat.{ℕ, _+_, _-_, _*_, _≤_}
+use Prim.Native.Nat.{ℕ, _+_, _-_, _*_, _≤_, _<_}
 use lib.Dec.{eqb, leb}
 use lib.ListN.{length, replicate}
 use Rattle.std.specs.Written.{decimal}
@@ -41,3 +41,8 @@ numberIn bs = cond (leb (readOn 0 bs) greatest && sameBytes bs (field (readOn 0 
 abbrev pub Shows : List ℕ → Option ℕ → Type 0
 Shows bs (Some n) = (n ≤ greatest) × (bs ≡ field n)
 Shows bs None = (n : ℕ) → n ≤ greatest → bs ≡ field n → ⊥
+
+-- r is the value of the octet c as a decimal digit; None, where it is no digit
+abbrev pub IsDigit : ℕ → Option ℕ → Type 0
+IsDigit c (Some d) = (d < 10) × (c ≡ 48 + d)
+IsDigit c None = (d : ℕ) → d < 10 → c ≡ 48 + d → ⊥

@@ -49,6 +49,18 @@ abbrev pub within : {T : Type 0} → Option ℕ → FieldPlace → (ℕ → Resu
 within None place answer = Err (Field place)
 within (Some n) place answer = answer n
 
+-- the numbers in the two fields of a line, or the refusal of the first that shows none
+abbrev pub numbersIn : List ℕ → Result (ℕ × ℕ) Refusal
+numbersIn s =
+    within (numberIn (fieldAt 0 s)) First (λ a.
+    within (numberIn (fieldAt 1 s)) Second (λ b.
+    Ok (a, b)))
+
+-- what follows from two numbers, where there are two
+abbrev pub withBoth : {T : Type 0} → Result (ℕ × ℕ) Refusal → (ℕ → ℕ → Result T Refusal) → Result T Refusal
+withBoth (Ok p) answer = answer (p .0) (p .1)
+withBoth (Err refusal) answer = Err refusal
+
 -- L, R or O
 abbrev pub opens : ℕ → Bool
 opens c = eqb c 76 || (eqb c 82 || eqb c 79)
@@ -61,21 +73,17 @@ unfoldable pub headIn : List ℕ → Result (ℕ × ℕ × ℕ) Refusal
 headIn s =
     unless (shaped s) LineShape
     (unless (opens (getD s 0 0)) Letter
-    (within (numberIn (fieldAt 0 s)) First (λ ports.
-    within (numberIn (fieldAt 1 s)) Second (λ cells.
+    (withBoth (numbersIn s) (λ ports cells.
     unless (inRange 1 256 ports) PortCount
     (unless (inRange 1 4096 cells) CellCount
-    (Ok (getD s 0 0, ports, cells)))))))
+    (Ok (getD s 0 0, ports, cells))))))
 
 -- A: a port and a tag
-unfoldable pub arrivalIn : List ℕ → Result Event Refusal
-arrivalIn s =
-    within (numberIn (fieldAt 0 s)) First (λ port.
-    within (numberIn (fieldAt 1 s)) Second (λ tag.
-    Ok (Arrival port tag)))
+abbrev pub arrivalIn : List ℕ → Result Event Refusal
+arrivalIn s = withBoth (numbersIn s) (λ port tag. Ok (Arrival port tag))
 
 -- T: both fields blank
-unfoldable pub tickIn : List ℕ → Result Event Refusal
+abbrev pub tickIn : List ℕ → Result Event Refusal
 tickIn s =
     unless (sameBytes (fieldAt 0 s) blank) (Field First)
     (unless (sameBytes (fieldAt 1 s) blank) (Field Second)

@@ -1,6 +1,6 @@
 // field.rt — the number in a field of eight octets.
 ghost use mathlib.Core.Path.{_≡_};
-ghost use Rattle.trace.specs.Field.{numberIn, Shows};
+ghost use Rattle.trace.specs.Field.{numberIn, Shows, IsDigit};
 
 // The number whose field the octets are; None where they are the field of no number.
 pub fn number(octets: &[u8]) -> Option<u32>
@@ -20,11 +20,21 @@ pub fn number(octets: &[u8]) -> Option<u32>
         if begun && value == 0 {
             return None;
         }
-        if *octet < b'0' || *octet > b'9' {
+        let Some(digit) = digit_of(*octet) else {
             return None;
-        }
-        value = value * 10 + (*octet - b'0') as u32;
+        };
+        value = value * 10 + digit;
         begun = true;
     }
     if begun { Some(value) } else { None }
+}
+
+// The value of a decimal digit; None where the octet is none.
+fn digit_of(octet: u8) -> Option<u32>
+    ensures { λ r. ⌜ IsDigit octet r ⌝ }
+{
+    match octet {
+        b'0'..=b'9' => Some((octet - b'0') as u32),
+        _ => None,
+    }
 }

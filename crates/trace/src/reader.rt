@@ -1,7 +1,7 @@
 // reader.rt — what a line of a trace says.
 ghost use mathlib.Core.Path.{_≡_};
 ghost use Rattle.trace.specs.Field.{blank};
-ghost use Rattle.trace.specs.Line.{shaped, headIn, arrivalIn, tickIn, eventIn, IsHead, IsEvent, ReadsBack};
+ghost use Rattle.trace.specs.Line.{shaped, numbersIn, headIn, arrivalIn, tickIn, eventIn, IsHead, IsEvent, ReadsBack};
 ghost use Rattle.std.specs.shelf.Text.{sameBytes};
 ghost use lib.ListN.{length};
 use crate::events::Event;
@@ -21,12 +21,7 @@ pub fn head(line: &[u8]) -> Result<(u8, usize, usize), Refusal>
         b'L' | b'R' | b'O' => {}
         _ => return Err(Refusal::Letter),
     }
-    let Some(ports) = number(&line[1..9]) else {
-        return Err(Refusal::Field(FieldPlace::First));
-    };
-    let Some(cells) = number(&line[9..17]) else {
-        return Err(Refusal::Field(FieldPlace::Second));
-    };
+    let (ports, cells) = numbers(line)?;
     if ports < 1 || ports > 256 {
         return Err(Refusal::PortCount);
     }
@@ -58,16 +53,25 @@ fn is_shaped(line: &[u8]) -> bool
     line.len() == 18 && line[17] == b'\n'
 }
 
+// The numbers in the two fields of the line.
+fn numbers(line: &[u8]) -> Result<(u32, u32), Refusal>
+    requires { ⌜ length (now line) ≡ 18 ⌝ }
+    ensures { λ r. ⌜ r ≡ numbersIn (now (line .entry)) ⌝ }
+{
+    let Some(first) = number(&line[1..9]) else {
+        return Err(Refusal::Field(FieldPlace::First));
+    };
+    let Some(second) = number(&line[9..17]) else {
+        return Err(Refusal::Field(FieldPlace::Second));
+    };
+    Ok((first, second))
+}
+
 fn arrival(line: &[u8]) -> Result<Event, Refusal>
     requires { ⌜ length (now line) ≡ 18 ⌝ }
     ensures { λ r. ⌜ r ≡ arrivalIn (now (line .entry)) ⌝ }
 {
-    let Some(port) = number(&line[1..9]) else {
-        return Err(Refusal::Field(FieldPlace::First));
-    };
-    let Some(tag) = number(&line[9..17]) else {
-        return Err(Refusal::Field(FieldPlace::Second));
-    };
+    let (port, tag) = numbers(line)?;
     Ok(Event::Arrival {
         port: port as usize,
         tag,

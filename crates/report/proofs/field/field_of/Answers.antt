@@ -1,6 +1,6 @@
 use mathlib.Core.Path.{_≡_, subst}
 use native.Mathlib.Omega.{arith}
-use Prim.Native.Nat.{ℕ, _+_, _-_, _<_, _≤_}
+use Prim.Native.Nat.{ℕ, _+_, _-_, _<_}
 use mathlib.Core.List.{List}
 use Rattle.report.proofs.Filling.{Filled, filled-more, filled-last, filled-all}
 use Rattle.report.proofs.field.field_of.Needs as need

@@ -1,5 +1,4 @@
 use mathlib.Core.Path.{sym, _∙_}
-use native.Mathlib.Omega.{arith}
 use Rattle.report.proofs.Assembly.{fit-more, fit-stop, fit-all}
 use Rattle.report.proofs.line.all_fit.Needs as need
 

@@ -2,7 +2,7 @@ use mathlib.Core.Path.{_≡_, sym, ap, subst, _∙_}
 use mathlib.Core.List.{_++_}
 use native.Mathlib.Omega.{arith}
 use Prim.Native.Nat.{_+_, _*_, _<_}
-use lib.ListN.{length, getD, set, take, drop, length-set}
+use lib.ListN.{length, getD, set, drop, length-set}
 use Rattle.std.proofs.shelf.Lists.{take-more, drop-set-lt, length-take-le}
 use Rattle.trace.specs.Line.{lineOf}
 use Rattle.report.proofs.Assembly.{Put, fit-at, put-letter, put-more, put-end, put-all}

@@ -1,5 +1,4 @@
 use mathlib.Core.Path.{sym}
-use native.Mathlib.Omega.{arith}
 use Rattle.report.proofs.ReadBack.{answer-fits, fields-back}
 use Rattle.report.proofs.writer.write.Needs as need
 

@@ -1,4 +1,3 @@
-use mathlib.Core.List.{[], _∷_}
 use Rattle.report.proofs.ReadBack.{head-written}
 use Rattle.report.proofs.writer.write_head.Needs as need
 

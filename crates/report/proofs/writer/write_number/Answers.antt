@@ -1,8 +1,6 @@
-use mathlib.Core.Path.{refl, sym, ap, _∙_}
-use mathlib.Core.Bool.{true, _&&_}
+use mathlib.Core.Path.{refl}
 use mathlib.Core.List.{[], _∷_}
-use native.Mathlib.Omega.{arith}
-use Rattle.std.proofs.shelf.Tests.{le-leb, lt-leb, both-ways, cond-false, and-from, and-left}
+use Rattle.std.proofs.shelf.Tests.{le-leb, both-ways, and-from}
 use Rattle.report.proofs.ReadBack.{answer-fits, answer-short, number-back, apart}
 use Rattle.report.proofs.writer.write_number.Needs as need
 

@@ -1,4 +1,4 @@
-use mathlib.Core.Path.{_≡_, sym, ap, subst, _∙_}
+use mathlib.Core.Path.{_≡_, ap, subst, _∙_}
 use mathlib.Core.Logic.{_⊎_, inl, inr, ⊎-elim}
 use mathlib.Core.Bool.{Bool, true, false}
 use mathlib.Core.List.{List}
@@ -10,9 +10,8 @@ use Rattle.std.proofs.shelf.Lists.{take-all}
 use Rattle.std.proofs.shelf.Tests.{both-ways}
 use Rattle.trace.specs.Field.{greatest, field}
 use Rattle.trace.proofs.Fields.{length-field, number-from-shows}
-use Rattle.trace.proofs.Reading.{Front, Untaken, front-all, front-idle, stuck-at, space-at, digit-taken, room-at}
+use Rattle.trace.proofs.Reading.{Front, front-all, front-idle, stuck-at, space-at, digit-taken, room-at}
 use Rattle.trace.proofs.field.number.Needs as need
-use Rattle.trace.proofs.field.number.Needs.{then-octet-lt48·by·then-octet-lt48, then-octet-lt48·by·else-octet-lt48·then-octet-gt57}
 
 -- a space is taken before the first digit
 not-space : {P : Type 0} (begun : Bool) → (P × (begun ≡ true)) ⊎ (P → ⊥) → begun ≡ false → P → ⊥
@@ -36,29 +35,30 @@ pub returns-then-value-eq0 : need.returns-then-value-eq0
 returns-then-value-eq0 c =
     let none = stuck-at (c .args .octets .now) _ _ _ (c .loop-octet-test .taken) (c .loop-octet .inv) (record {
       space = not-space _ (c .else-octet-eq32 .either);
-      digit = λ go _. ⊎-elim (λ e. both-ways _ e (c .if-begun .taken)) (λ (some : 0 < c .loop-octet .value). omega (arith, c .if-value-eq0 .taken)) go;
+      digit = λ go _ _ _. ⊎-elim (λ e. both-ways _ e (c .if-begun .taken)) (λ (some : 0 < c .loop-octet .value). omega (arith, c .if-value-eq0 .taken)) go;
     }) in
     record { value = number-from-shows _ None none; law = none }
 
-pub returns-then-octet-lt48 : need.returns-then-octet-lt48
-returns-then-octet-lt48 c =
+pub returns-in-rest : need.returns-in-rest
+returns-in-rest c =
     let none = stuck-at (c .args .octets .now) _ _ _ (c .loop-octet-test .taken) (c .loop-octet .inv) (record {
-      space = not-space _ (c .else-octet-eq32 .either);
-      digit = λ _ d. elim (c .then-octet-lt48 .came) [ then-octet-lt48·by·then-octet-lt48 w ↦ omega (arith, w .if-octet-lt48 .taken) | then-octet-lt48·by·else-octet-lt48·then-octet-gt57 w ↦ omega (arith, w .if-octet-gt57 .taken) ];
-    }) in
+          space = not-space _ (c .else-octet-eq32 .either);
+          digit = λ _. c .in-rest .ensures tt;
+        }) in
     record { value = number-from-shows _ None none; law = none }
 
 pub mul-value : need.mul-value
 mul-value c = omega (arith, room-at _ _ _ _ (c .loop-octet-test .taken) (c .loop-octet .inv) (omega arith))
 
 pub add-value : need.add-value
-add-value c = omega (arith, room-at _ _ _ _ (c .loop-octet-test .taken) (c .loop-octet .inv) (omega arith))
+add-value c = omega (arith, c .in-Some .ensures tt, room-at _ _ _ _ (c .loop-octet-test .taken) (c .loop-octet .inv) (omega arith))
 
 pub loop-octet-again : need.loop-octet-again
 loop-octet-again c =
-    digit-taken _ _ _ _ (c .loop-octet-test .taken) (c .loop-octet .inv) (omega arith)
+    let digit = c .in-Some .ensures tt in
+    digit-taken _ _ _ _ (c .loop-octet-test .taken) (c .loop-octet .inv) _ (omega arith)
     (⊎-elim (λ p. let some : 0 < c .loop-octet .value = omega (arith, p .1) in inr some) inl (c .else-begun .either))
-    (omega arith) (omega arith)
+    (digit .0) (digit .1)
 
 pub returns-then-begun-2 : need.returns-then-begun-2
 returns-then-begun-2 c =

@@ -1,4 +1,3 @@
-use mathlib.Core.Path.{sym, _∙_}
 use native.Mathlib.Omega.{arith}
 use Rattle.trace.proofs.Cutting.{line-more, line-end, line-none}
 use Rattle.trace.proofs.lines.line_length.Needs as need
