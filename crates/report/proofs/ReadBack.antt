@@ -8,18 +8,16 @@ use native.Mathlib.Numerals.{one-add}
 use lib.Dec.{leb}
 use lib.ListN.{length, getD, take, drop, length-append}
 use Rattle.std.specs.Joined.{joined}
-use Rattle.std.specs.Results.{isOk}
-use Rattle.std.specs.declared.result.Result.{Result}
 use Rattle.std.specs.declared.result.Result.the-variants.{Ok, Err}
-use Rattle.std.proofs.shelf.Lists.{take-at, drop-at, drop-drop}
-use Rattle.std.proofs.shelf.Tests.{and-parts, le-leb, lt-leb, cond-true, cond-false, both-ways}
-use Rattle.refusal.specs.declared.Refusal.{Refusal}
+use Rattle.std.specs.declared.option.Option.the-variants.{Some}
+use Rattle.std.proofs.shelf.Lists.{take-at, drop-at, drop-drop, length-take-le}
+use Rattle.std.proofs.shelf.Tests.{and-parts, le-leb, lt-leb, cond-true, cond-false}
 use Rattle.refusal.specs.declared.Refusal.the-variants.{ShortText}
 use Rattle.trace.specs.Field.{greatest, field, numberIn}
 use Rattle.trace.specs.Line.{lineOf, fieldAt, headIn}
-use Rattle.trace.proofs.Fields.{length-field, number-in-field, same-from-field}
+use Rattle.trace.proofs.Fields.{length-field, number-in-field}
 use Rattle.trace.proofs.Verdicts.{head-back, in-range}
-use Rattle.report.specs.Written.{allFit, answerOf, after, NumberBack, FieldsBack, HeadBack, Apart}
+use Rattle.report.specs.Written.{allFit, answerOf, FieldsBack, HeadBack}
 use Rattle.report.proofs.Assembly.{fit-at}
 
 -- the field of number k among the fields of ns
@@ -47,11 +45,13 @@ pub fields-back : (letter : ℕ) (ns rest s : List ℕ) → allFit ns ≡ true �
 fields-back letter ns rest s e is k h =
     ap numberIn (ap (fieldAt k) is ∙ field-of-line letter ns rest k e h) ∙ number-in-field (getD ns k 0) (fit-at ns k e h)
 
-pub number-back : (n : ℕ) (rest s : List ℕ) → n ≤ greatest → s ≡ field n ++ rest → NumberBack n s
-number-back n rest s h is = ap numberIn (ap (take 8) is ∙ take-at (field n) rest 8 (length-field n h)) ∙ number-in-field n h
-
-pub apart : (n : ℕ) → Apart n
-apart n m p q e = same-from-field m n p q e
+-- a field that was put after at octets
+pub number-back : (n at : ℕ) (s rest t : List ℕ) → n ≤ greatest → at + 8 ≤ length s → t ≡ take at s ++ (field n ++ rest) → numberIn (take 8 (drop at t)) ≡ Some n
+number-back n at s rest t h within is =
+    ap (λ l. numberIn (take 8 (drop at l))) is
+    ∙ ap (λ l. numberIn (take 8 l)) (drop-at (take at s) (field n ++ rest) at (length-take-le at s (omega arith)))
+    ∙ ap numberIn (take-at (field n) rest 8 (length-field n h))
+    ∙ number-in-field n h
 
 -- what the answer says of the numbers and of the space
 pub answer-fits : (ns : List ℕ) (least n : ℕ) (s : List ℕ) → allFit ns ≡ true → least ≤ length s → Ok n ≡ answerOf ns least n s
@@ -61,11 +61,13 @@ pub answer-short : (ns : List ℕ) (least n : ℕ) (s : List ℕ) → allFit ns 
 answer-short ns least n s e h = sym (cond-true _ _ _ e ∙ cond-false _ _ _ (lt-leb least (length s) h))
 
 -- a head that was written
-pub head-written : (letter ports cells : ℕ) (s entry : List ℕ) (r : Result ℕ Refusal) → r ≡ answerOf (ports ∷ cells ∷ []) 34 18 entry → s ≡ after r (lineOf letter (ports ∷ cells ∷ [])) entry → isOk r ≡ true → HeadBack letter ports cells s
-head-written letter ports cells s entry (Err refusal) answer is ok = absurd (both-ways _ refl ok)
-head-written letter ports cells s entry (Ok n) answer is ok = λ l p q.
-    let ports-in = in-range 1 256 ports p in
-    let cells-in = in-range 1 4096 cells q in
-    let long : length (lineOf letter (ports ∷ cells ∷ [])) ≡ 18 = omega (arith, length-append (field ports ++ (field cells ++ [])) (10 ∷ []), length-append (field ports) (field cells ++ []), length-append (field cells) [], length-field ports (omega arith), length-field cells (omega arith)) in
-    ap headIn (ap (take 18) is ∙ take-at (lineOf letter (ports ∷ cells ∷ [])) (drop n entry) 18 long)
-    ∙ head-back (lineOf letter (ports ∷ cells ∷ [])) (letter, ports, cells) .1 (record { letter = l; ports = ports-in; cells = cells-in; octets = refl })
+pub head-written : (letter : ℕ) (ns rest s : List ℕ) → length ns ≡ 2 → s ≡ lineOf letter ns ++ rest → HeadBack letter (getD ns 0 0) (getD ns 1 0) s
+head-written letter [] rest s two is = absurd (omega arith)
+head-written letter (a ∷ []) rest s two is = absurd (omega arith)
+head-written letter (a ∷ b ∷ c ∷ ns) rest s two is = absurd (omega arith)
+head-written letter (a ∷ b ∷ []) rest s two is = λ l p q.
+    let ports-in = in-range 1 256 a p in
+    let cells-in = in-range 1 4096 b q in
+    let long : length (lineOf letter (a ∷ b ∷ [])) ≡ 18 = omega (arith, length-append (field a ++ (field b ++ [])) (10 ∷ []), length-append (field a) (field b ++ []), length-append (field b) [], length-field a (omega arith), length-field b (omega arith)) in
+    ap headIn (ap (take 18) is ∙ take-at (lineOf letter (a ∷ b ∷ [])) rest 18 long)
+    ∙ head-back (lineOf letter (a ∷ b ∷ [])) (letter, a, b) .1 (record { letter = l; ports = ports-in; cells = cells-in; octets = refl })

@@ -2,11 +2,10 @@
 --     answerOf ns least n s     the answer: n octets are written, if the numbers ns fit their fields and the space s has at least `least` octets
 --     after r out s             what the space s holds after the answer r: the octets out and then the rest of s, or s as it was
 --     NumberBack, FieldsBack, HeadBack     the octets s that were written are read back as what was to be written
---     Apart n                   no other number has the field of n
 use mathlib.Core.Path.{_≡_}
 use mathlib.Core.Bool.{Bool, true, _&&_}
 use mathlib.Core.List.{List, [], _∷_, _++_}
-use Prim.Native.Nat.{ℕ, _≤_, _<_}
+use Prim.Native.Nat.{ℕ, _<_}
 use lib.Dec.{leb}
 use lib.ListN.{length, getD, take, drop}
 use Rattle.std.specs.declared.option.Option.the-variants.{Some}
@@ -14,7 +13,7 @@ use Rattle.std.specs.declared.result.Result.{Result}
 use Rattle.std.specs.declared.result.Result.the-variants.{Ok, Err}
 use Rattle.refusal.specs.declared.Refusal.{Refusal}
 use Rattle.refusal.specs.declared.Refusal.the-variants.{ShortText, NumberTooLarge}
-use Rattle.trace.specs.Field.{greatest, field, numberIn}
+use Rattle.trace.specs.Field.{greatest, numberIn}
 use Rattle.trace.specs.Line.{unless, fieldAt, opens, inRange, headIn}
 
 -- each number can be shown in a field
@@ -41,6 +40,3 @@ FieldsBack ns s = (k : ℕ) → k < length ns → numberIn (fieldAt k s) ≡ Som
 -- the head that s begins with is read as this head, if it is one that may open a trace
 abbrev pub HeadBack : ℕ → ℕ → ℕ → List ℕ → Type 0
 HeadBack letter ports cells s = opens letter ≡ true → inRange 1 256 ports ≡ true → inRange 1 4096 cells ≡ true → headIn (take 18 s) ≡ Ok (letter, ports, cells)
-
-abbrev pub Apart : ℕ → Type 0
-Apart n = (m : ℕ) → m ≤ greatest → n ≤ greatest → field m ≡ field n → m ≡ n

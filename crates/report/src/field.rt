@@ -3,13 +3,15 @@ ghost use mathlib.Core.Path.{_≡_};
 ghost use mathlib.Core.List.{_++_};
 ghost use Prim.Native.Nat.{_+_, _≤_};
 ghost use lib.ListN.{length, take, drop};
-ghost use Rattle.trace.specs.Field.{greatest, field};
+ghost use Rattle.std.specs.declared.option.Option.the-variants.{Some};
+ghost use Rattle.trace.specs.Field.{greatest, field, numberIn};
 
 // Puts the field of n into the eight columns from `at` on.
 pub(crate) fn put_field(text: &mut [u8], at: usize, n: u32)
     requires within { ⌜ at + 8 ≤ length (now text) ⌝ }
     requires fits { ⌜ n ≤ greatest ⌝ }
-    ensures { λ _. ⌜ now (text .exit) ≡ take at (now (text .entry)) ++ (field n ++ drop (at + 8) (now (text .entry))) ⌝ }
+    ensures text { λ _. ⌜ now (text .exit) ≡ take at (now (text .entry)) ++ (field n ++ drop (at + 8) (now (text .entry))) ⌝ }
+    ensures law { λ _. ⌜ numberIn (take 8 (drop at (now (text .exit)))) ≡ Some n ⌝ }
 {
     let octets = field_of(n);
     text[at..at + 8].copy_from_slice(&octets);

@@ -3,11 +3,11 @@ ghost use mathlib.Core.Path.{_≡_};
 ghost use mathlib.Core.Bool.{true};
 ghost use mathlib.Core.List.{[], _∷_};
 ghost use Prim.Native.Nat.{_+_, _*_, _≤_};
-ghost use lib.ListN.{length};
+ghost use lib.ListN.{length, getD};
 ghost use Rattle.std.specs.Results.{isOk};
 ghost use Rattle.trace.specs.Field.{field};
 ghost use Rattle.trace.specs.Line.{lineOf};
-ghost use Rattle.report.specs.Written.{answerOf, after, NumberBack, FieldsBack, HeadBack, Apart};
+ghost use Rattle.report.specs.Written.{answerOf, after, NumberBack, FieldsBack, HeadBack};
 use crate::field::put_field;
 use crate::line::all_fit;
 use crate::line::put_line;
@@ -18,7 +18,6 @@ pub fn write_number(text: &mut [u8], n: u32) -> Result<usize, Refusal>
     ensures answer { λ r. ⌜ r ≡ answerOf (n ∷ []) 8 8 (now (text .entry)) ⌝ }
     ensures text { λ r. ⌜ now (text .exit) ≡ after r (field n) (now (text .entry)) ⌝ }
     ensures law { λ r. ⌜ (isOk r ≡ true → NumberBack n (now (text .exit))) ⌝ }
-    ensures apart { λ _. ⌜ Apart n ⌝ }
 {
     if n > 99_999_999 {
         return Err(Refusal::NumberTooLarge);
@@ -63,11 +62,13 @@ pub fn write_refusal(
     write(text, b'X', &[line, refusal, column, period])
 }
 
+// Writes the line of the letter and the numbers, of which there are at most four.
 fn write(text: &mut [u8], letter: u8, numbers: &[u32]) -> Result<usize, Refusal>
     requires { ⌜ length (now numbers) ≤ 4 ⌝ }
     ensures answer { λ r. ⌜ r ≡ answerOf (now (numbers .entry)) 34 (8 * length (now (numbers .entry)) + 2) (now (text .entry)) ⌝ }
     ensures text { λ r. ⌜ now (text .exit) ≡ after r (lineOf letter (now (numbers .entry))) (now (text .entry)) ⌝ }
-    ensures law { λ r. ⌜ (isOk r ≡ true → FieldsBack (now (numbers .entry)) (now (text .exit))) ⌝ }
+    ensures fields { λ r. ⌜ (isOk r ≡ true → FieldsBack (now (numbers .entry)) (now (text .exit))) ⌝ }
+    ensures head { λ r. ⌜ (isOk r ≡ true → length (now (numbers .entry)) ≡ 2 → HeadBack letter (getD (now (numbers .entry)) 0 0) (getD (now (numbers .entry)) 1 0) (now (text .exit))) ⌝ }
 {
     if !all_fit(numbers) {
         return Err(Refusal::NumberTooLarge);

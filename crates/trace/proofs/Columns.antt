@@ -15,7 +15,6 @@ abbrev pub framed : ℕ → List ℕ → List ℕ → List ℕ
 framed letter x y = letter ∷ (x ++ (y ++ 10 ∷ []))
 
 pub shaped-parts : (s : List ℕ) → shaped s ≡ true → (length s ≡ 18) × (getD s 17 0 ≡ 10)
-unfolding shaped
 shaped-parts s e = let p = and-parts _ _ e in (eqb-true _ _ (p .0), eqb-true _ _ (p .1))
 
 -- a line of that shape is framed by its parts
@@ -29,7 +28,6 @@ shaped-framed s e =
 
 module _ (letter : ℕ) (x y : List ℕ) (ex : length x ≡ 8) (ey : length y ≡ 8) where
   pub framed-shaped : shaped (framed letter x y) ≡ true
-  unfolding shaped
   framed-shaped =
       and-from _ _
       (eq-eqb _ _ (omega (arith, length-append x (y ++ 10 ∷ []), length-append y (10 ∷ []))))

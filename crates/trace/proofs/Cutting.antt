@@ -74,3 +74,8 @@ loses-nothing t l r front back = record {
   end = no-line t;
   whole = join-lines t;
 }
+
+-- to cut after n octets, where n is the length of the line
+pub cuts-there : (t : List ℕ) (n : ℕ) → n ≡ lineLength t → (n ≡ lineLength t) × (n ≤ length t) × LosesNothing t (take n t) (drop n t)
+cuts-there t n e =
+    (e, omega (arith, line-fits t), loses-nothing t (take n t) (drop n t) (ap (λ k. take k t) e) (ap (λ k. drop k t) e))

@@ -19,7 +19,7 @@ use Rattle.refusal.specs.declared.Refusal.the-variants.{NoSuchPort}
 use Rattle.trace.specs.declared.events.Event.{Event}
 use Rattle.trace.specs.declared.events.Event.the-variants.{Arrival, Tick}
 use Rattle.trace.specs.declared.summary.Summary.{Summary}
-use Rattle.trace.specs.Line.{shaped, headIn, eventIn}
+use Rattle.trace.specs.Line.{headIn, eventIn}
 use Rattle.trace.specs.Text.{lineLength, linesOf, Cut, LosesNothing}
 use Rattle.trace.specs.Counting.{counted, Countable}
 use Rattle.trace.specs.Inspection.{forPorts, eventFor, portsOf, refusalAt, isArrival, isArrivalFor, isTick, howMany, Whole, Damaged, AddsUp}
@@ -59,7 +59,6 @@ for-ports n (Ok Tick) e h = (h, subst (InPorts n) {x = Tick} (ok-same h) tt)
 for-ports n (Err refusal) e h = absurd (err-ok h)
 
 pub event-taken : (n : ℕ) (s : List ℕ) (e : Event) → eventFor n s ≡ Ok e → (eventIn s ≡ Ok e) × InPorts n e
-unfolding eventFor
 event-taken n s e h = for-ports n (eventIn s) e h
 
 -- one more line
@@ -252,7 +251,7 @@ head-damaged text first rest refusal c k h = record {
 
 -- an empty text has no head
 pub head-some : (text first rest : List ℕ) (h : ℕ × ℕ × ℕ) → Cut text first rest → headIn first ≡ Ok h → 0 < length text
-unfolding shaped headIn
+unfolding headIn
 head-some text first rest h c ok =
     ⊎-elim
     (λ (some : 0 < length text). some)

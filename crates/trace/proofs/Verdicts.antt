@@ -6,7 +6,7 @@ use mathlib.Core.List.{List, [], _∷_}
 use Prim.Native.Nat.{ℕ, _≤_, _<_}
 use native.Mathlib.Omega.{arith}
 use lib.Dec.{eqb}
-use lib.ListN.{length, getD}
+use lib.ListN.{getD}
 use Rattle.std.specs.Results.{valueOr}
 use Rattle.std.specs.shelf.Text.{sameBytes}
 use Rattle.std.specs.declared.option.Option.{Option}
@@ -159,7 +159,7 @@ abbrev pub eventBy : Bool → Bool → Bool → Result Event Refusal → Result 
 eventBy shape is-a is-t arrival tick = unless shape LineShape (cond is-a arrival (cond is-t tick (Err Letter)))
 
 from-event : (s : List ℕ) (e : Event) → IsEvent s e → eventIn s ≡ Ok e
-unfolding shaped eventIn
+unfolding eventIn
 from-event s (Arrival port tag) (p, q, is) =
     let shape = line-shaped 65 port tag p q in
     let numbers = line-numbers 65 port tag p q in

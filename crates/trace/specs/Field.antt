@@ -3,6 +3,7 @@
 --     blank           the eight octets that show nothing: spaces
 --     numberIn bs     the number whose field the octets bs are, if there is one
 --     Shows bs r      r is that number, in terms of `field` alone
+--     FieldsApart     no two numbers have one field
 use mathlib.Core.Path.{_≡_}
 use mathlib.Core.Bool.{cond, _&&_}
 use mathlib.Core.List.{List, [], _∷_, _++_}
@@ -41,6 +42,10 @@ numberIn bs = cond (leb (readOn 0 bs) greatest && sameBytes bs (field (readOn 0 
 abbrev pub Shows : List ℕ → Option ℕ → Type 0
 Shows bs (Some n) = (n ≤ greatest) × (bs ≡ field n)
 Shows bs None = (n : ℕ) → n ≤ greatest → bs ≡ field n → ⊥
+
+-- different numbers have different fields
+abbrev pub FieldsApart : Type 0
+FieldsApart = (m n : ℕ) → m ≤ greatest → n ≤ greatest → field m ≡ field n → m ≡ n
 
 -- r is the value of the octet c as a decimal digit; None, where it is no digit
 abbrev pub IsDigit : ℕ → Option ℕ → Type 0

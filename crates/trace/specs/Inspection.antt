@@ -30,7 +30,7 @@ forPorts n (Ok (Arrival port tag)) = unless (ltb port n) NoSuchPort (Ok (Arrival
 forPorts n (Ok Tick) = Ok Tick
 forPorts n (Err refusal) = Err refusal
 
-unfoldable pub eventFor : ℕ → List ℕ → Result Event Refusal
+abbrev pub eventFor : ℕ → List ℕ → Result Event Refusal
 eventFor n s = forPorts n (eventIn s)
 
 -- the ports that a head opens; none where there is no head

@@ -37,7 +37,7 @@ abbrev pub fieldAt : ℕ → List ℕ → List ℕ
 fieldAt k s = between (1 + 8 * k) (9 + 8 * k) s
 
 -- 18 octets, of which the last is octet 10
-unfoldable pub shaped : List ℕ → Bool
+abbrev pub shaped : List ℕ → Bool
 shaped s = eqb (length s) 18 && eqb (getD s 17 0) 10
 
 -- a refusal, unless the test is passed

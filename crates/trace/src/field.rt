@@ -1,11 +1,12 @@
 // field.rt — the number in a field of eight octets.
 ghost use mathlib.Core.Path.{_≡_};
-ghost use Rattle.trace.specs.Field.{numberIn, Shows, IsDigit};
+ghost use Rattle.trace.specs.Field.{numberIn, Shows, FieldsApart, IsDigit};
 
 // The number whose field the octets are; None where they are the field of no number.
 pub fn number(octets: &[u8]) -> Option<u32>
     ensures value { λ r. ⌜ r ≡ numberIn (now (octets .entry)) ⌝ }
     ensures law { λ r. ⌜ Shows (now (octets .entry)) r ⌝ }
+    ensures apart { λ _. ⌜ FieldsApart ⌝ }
 {
     if octets.len() != 8 {
         return None;

@@ -24,7 +24,7 @@ loop-n-again c =
     let ns = c .args .numbers .now in
     let k = c .loop-n .n-index in
     subst (λ l. Put (c .args .letter) l (set (c .args .text .now) 0 (c .args .letter)) (c .loop-n .end + 8) (c .put-field .last .text)) (sym (take-more ns k 0 (c .loop-n-test .taken)))
-    (put-more _ _ _ _ _ (c .loop-n .inv) (getD ns k 0) _ (fit-at ns k (c .pre .fit) (c .loop-n-test .taken)) (c .put-field .ensures))
+    (put-more _ _ _ _ _ (c .loop-n .inv) (getD ns k 0) _ (fit-at ns k (c .pre .fit) (c .loop-n-test .taken)) (c .put-field .ensures .text))
 
 pub returns : need.returns
 returns c =

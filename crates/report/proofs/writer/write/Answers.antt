@@ -1,5 +1,5 @@
 use mathlib.Core.Path.{sym}
-use Rattle.report.proofs.ReadBack.{answer-fits, fields-back}
+use Rattle.report.proofs.ReadBack.{answer-fits, fields-back, head-written}
 use Rattle.report.proofs.writer.write.Needs as need
 
 pub returns : need.returns
@@ -8,5 +8,6 @@ returns c =
     record {
       answer = answer-fits (c .args .numbers .now) 34 _ (c .args .text .now) fit (c .if-text-lt34 .left);
       text = c .put-line .ensures;
-      law = λ _. fields-back (c .args .letter) (c .args .numbers .now) _ _ fit (c .put-line .ensures);
+      fields = λ _. fields-back (c .args .letter) (c .args .numbers .now) _ _ fit (c .put-line .ensures);
+      head = λ _ two. head-written (c .args .letter) (c .args .numbers .now) _ _ two (c .put-line .ensures);
     }

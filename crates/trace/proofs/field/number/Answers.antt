@@ -9,7 +9,7 @@ use Rattle.std.specs.declared.option.Option.the-variants.{Some, None}
 use Rattle.std.proofs.shelf.Lists.{take-all}
 use Rattle.std.proofs.shelf.Tests.{both-ways}
 use Rattle.trace.specs.Field.{greatest, field}
-use Rattle.trace.proofs.Fields.{length-field, number-from-shows}
+use Rattle.trace.proofs.Fields.{length-field, number-from-shows, same-from-field}
 use Rattle.trace.proofs.Reading.{Front, front-all, front-idle, stuck-at, space-at, digit-taken, room-at}
 use Rattle.trace.proofs.field.number.Needs as need
 
@@ -25,7 +25,7 @@ whole bs i begun value h f = subst (λ l. Front l begun value) (take-all i bs h)
 pub returns-then-octets-ne8 : need.returns-then-octets-ne8
 returns-then-octets-ne8 c =
     let none : (n : ℕ) → n ≤ greatest → c .args .octets .now ≡ field n → ⊥ = λ n h e. c .if-octets-ne8 .taken (ap length e ∙ length-field n h) in
-    record { value = number-from-shows _ None none; law = none }
+    record { value = number-from-shows _ None none; law = none; apart = same-from-field }
 
 pub loop-octet-again-then-not-begun : need.loop-octet-again-then-not-begun
 loop-octet-again-then-not-begun c =
@@ -37,15 +37,15 @@ returns-then-value-eq0 c =
       space = not-space _ (c .else-octet-eq32 .either);
       digit = λ go _ _ _. ⊎-elim (λ e. both-ways _ e (c .if-begun .taken)) (λ (some : 0 < c .loop-octet .value). omega (arith, c .if-value-eq0 .taken)) go;
     }) in
-    record { value = number-from-shows _ None none; law = none }
+    record { value = number-from-shows _ None none; law = none; apart = same-from-field }
 
 pub returns-in-rest : need.returns-in-rest
 returns-in-rest c =
     let none = stuck-at (c .args .octets .now) _ _ _ (c .loop-octet-test .taken) (c .loop-octet .inv) (record {
-          space = not-space _ (c .else-octet-eq32 .either);
-          digit = λ _. c .in-rest .ensures tt;
-        }) in
-    record { value = number-from-shows _ None none; law = none }
+      space = not-space _ (c .else-octet-eq32 .either);
+      digit = λ _. c .in-rest .ensures tt;
+    }) in
+    record { value = number-from-shows _ None none; law = none; apart = same-from-field }
 
 pub mul-value : need.mul-value
 mul-value c = omega (arith, room-at _ _ _ _ (c .loop-octet-test .taken) (c .loop-octet .inv) (omega arith))
@@ -64,10 +64,10 @@ pub returns-then-begun-2 : need.returns-then-begun-2
 returns-then-begun-2 c =
     let f = whole _ _ _ _ (c .loop-octet-test .left) (c .loop-octet .inv) in
     let shown = front-all _ _ (subst (λ b. Front (c .args .octets .now) b (c .loop-octet .value)) (c .if-begun-2 .taken) f) (c .if-octets-ne8 .left) in
-    record { value = number-from-shows _ (Some _) shown; law = shown }
+    record { value = number-from-shows _ (Some _) shown; law = shown; apart = same-from-field }
 
 pub returns-else-begun-2 : need.returns-else-begun-2
 returns-else-begun-2 c =
     let f = whole _ _ _ _ (c .loop-octet-test .left) (c .loop-octet .inv) in
     let none = front-idle _ _ (subst (λ b. Front (c .args .octets .now) b (c .loop-octet .value)) (c .if-begun-2 .left) f) in
-    record { value = number-from-shows _ None none; law = none }
+    record { value = number-from-shows _ None none; law = none; apart = same-from-field }

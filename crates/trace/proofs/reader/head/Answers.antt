@@ -5,8 +5,7 @@ use lib.ListN.{getD}
 use Rattle.std.specs.declared.result.Result.the-variants.{Err}
 use Rattle.std.proofs.shelf.Tests.{cond-true, cond-false}
 use Rattle.std.proofs.shelf.Results.{err-from-errBy}
-use Rattle.refusal.specs.declared.Refusal.the-variants.{LineShape, Letter, Field, PortCount, CellCount}
-use Rattle.refusal.specs.declared.FieldPlace.the-variants.{First, Second}
+use Rattle.refusal.specs.declared.Refusal.the-variants.{LineShape, Letter, PortCount, CellCount}
 use Rattle.trace.proofs.Columns.{shaped-parts}
 use Rattle.trace.proofs.Verdicts.{head-answer, does-open, not-opens, not-in-range, range-in}
 use Rattle.trace.proofs.reader.head.Needs as need
