@@ -6,6 +6,9 @@ ghost use lib.ListN.{length, take, drop};
 ghost use Rattle.std.specs.declared.option.Option.the-variants.{Some};
 ghost use Rattle.trace.specs.Field.{greatest, field, numberIn};
 
+// The largest number that a field can show.
+pub(crate) const LARGEST: u32 = 99_999_999;
+
 // Puts the field of n into the eight columns from `at` on.
 pub(crate) fn put_field(text: &mut [u8], at: usize, n: u32)
     requires within { ⌜ at + 8 ≤ length (now text) ⌝ }
@@ -17,6 +20,7 @@ pub(crate) fn put_field(text: &mut [u8], at: usize, n: u32)
     text[at..at + 8].copy_from_slice(&octets);
 }
 
+// The digits of n from the right, until none is left; the columns before them stay spaces.
 fn field_of(n: u32) -> [u8; 8]
     requires { ⌜ n ≤ greatest ⌝ }
     ensures { λ r. ⌜ r ≡ field n ⌝ }

@@ -6,6 +6,7 @@ ghost use Prim.Native.Nat.{_+_, _*_, _≤_};
 ghost use lib.ListN.{length, take, drop};
 ghost use Rattle.trace.specs.Line.{lineOf};
 ghost use Rattle.report.specs.Written.{allFit};
+use crate::field::LARGEST;
 use crate::field::put_field;
 
 // Writes the line at the start of the text space.
@@ -28,7 +29,7 @@ pub(crate) fn all_fit(numbers: &[u32]) -> bool
     ensures { λ r. ⌜ r ≡ allFit (now (numbers .entry)) ⌝ }
 {
     for n in numbers {
-        if *n > 99_999_999 {
+        if *n > LARGEST {
             return false;
         }
     }

@@ -8,6 +8,7 @@ ghost use Rattle.std.specs.Results.{isOk};
 ghost use Rattle.trace.specs.Field.{field};
 ghost use Rattle.trace.specs.Line.{lineOf};
 ghost use Rattle.report.specs.Written.{answerOf, after, NumberBack, FieldsBack, HeadBack};
+use crate::field::LARGEST;
 use crate::field::put_field;
 use crate::line::all_fit;
 use crate::line::put_line;
@@ -19,7 +20,7 @@ pub fn write_number(text: &mut [u8], n: u32) -> Result<usize, Refusal>
     ensures text { λ r. ⌜ now (text .exit) ≡ after r (field n) (now (text .entry)) ⌝ }
     ensures law { λ r. ⌜ (isOk r ≡ true → NumberBack n (now (text .exit))) ⌝ }
 {
-    if n > 99_999_999 {
+    if n > LARGEST {
         return Err(Refusal::NumberTooLarge);
     }
     if text.len() < 8 {

@@ -67,6 +67,7 @@ fn numbers(line: &[u8]) -> Result<(u32, u32), Refusal>
     Ok((first, second))
 }
 
+// An A line: a port and a tag.
 fn arrival(line: &[u8]) -> Result<Event, Refusal>
     requires { ⌜ length (now line) ≡ 18 ⌝ }
     ensures { λ r. ⌜ r ≡ arrivalIn (now (line .entry)) ⌝ }
@@ -78,6 +79,7 @@ fn arrival(line: &[u8]) -> Result<Event, Refusal>
     })
 }
 
+// A T line: both fields blank.
 fn tick(line: &[u8]) -> Result<Event, Refusal>
     requires { ⌜ length (now line) ≡ 18 ⌝ }
     ensures { λ r. ⌜ r ≡ tickIn (now (line .entry)) ⌝ }
