@@ -19,3 +19,11 @@ fn rows() -> Result<(), Fail> {
     }
     Ok(())
 }
+
+#[test]
+fn words(rt: LibcRuntime) -> Result<(), Fail> {
+    let shape = Refusal::LineShape.to_string(rt.alloc())?;
+    check(shape.as_str() == "the line is not 18 octets that end in octet 10")?;
+    let field = Refusal::Field(FieldPlace::Second).to_string(rt.alloc())?;
+    check(field.as_str() == "the field does not show a number, or is not blank on a T line")
+}
