@@ -1,6 +1,6 @@
 -- How the digits of a number fill the columns of its field from the right. Assumes nothing.
-use mathlib.Core.Path.{_≡_, refl, sym, ap, _∙_}
-use mathlib.Core.List.{List, [], _∷_, _++_, append-assoc, append-nil}
+use mathlib.Core.Path.{_≡_, sym, ap, _∙_}
+use mathlib.Core.List.{List, [], _∷_, _++_, append-assoc}
 use Prim.Native.Nat.{ℕ, _+_, _-_, _/_, _%_, _≤_, _<_}
 use native.Mathlib.Omega.{arith}
 use lib.ListN.{length, set, replicate, length-append, length-replicate}
@@ -16,9 +16,6 @@ pub record Filled (n rest j : ℕ) (octets : List ℕ) : Type 0 where
   pub digits : decimal n ≡ decimal rest ++ done
   pub count : j + length done ≡ 8
   pub small : rest ≤ greatest
-
-pub filled-none : (n : ℕ) → n ≤ greatest → Filled n n 8 (replicate 8 32)
-filled-none n h = record { done = []; is = refl; digits = sym (append-nil (decimal n)); count = refl; small = h }
 
 -- the column before those that are filled gets the octet c
 put-before : (j c : ℕ) (done : List ℕ) → set (replicate (j + 1) 32 ++ done) j c ≡ replicate j 32 ++ c ∷ done

@@ -8,11 +8,10 @@ use native.Mathlib.Numerals.{one-add}
 use lib.Dec.{leb}
 use lib.ListN.{length, getD, take, drop, length-append}
 use Rattle.std.specs.Joined.{joined}
-use Rattle.std.specs.declared.result.Result.the-variants.{Ok, Err}
+use Rattle.std.specs.declared.result.Result.the-variants.{Ok}
 use Rattle.std.specs.declared.option.Option.the-variants.{Some}
 use Rattle.std.proofs.shelf.Lists.{take-at, drop-at, drop-drop, length-take-le}
-use Rattle.std.proofs.shelf.Tests.{and-parts, le-leb, lt-leb, cond-true, cond-false}
-use Rattle.refusal.specs.declared.Refusal.the-variants.{ShortText}
+use Rattle.std.proofs.shelf.Tests.{and-parts, le-leb, cond-true}
 use Rattle.trace.specs.Field.{greatest, field, numberIn}
 use Rattle.trace.specs.Line.{lineOf, fieldAt, headIn}
 use Rattle.trace.proofs.Fields.{length-field, number-in-field}
@@ -56,9 +55,6 @@ number-back n at s rest t h within is =
 -- what the answer says of the numbers and of the space
 pub answer-fits : (ns : List ℕ) (least n : ℕ) (s : List ℕ) → allFit ns ≡ true → least ≤ length s → Ok n ≡ answerOf ns least n s
 answer-fits ns least n s e h = sym (cond-true _ _ _ e ∙ cond-true _ _ _ (le-leb least (length s) h))
-
-pub answer-short : (ns : List ℕ) (least n : ℕ) (s : List ℕ) → allFit ns ≡ true → length s < least → Err ShortText ≡ answerOf ns least n s
-answer-short ns least n s e h = sym (cond-true _ _ _ e ∙ cond-false _ _ _ (lt-leb least (length s) h))
 
 -- a head that was written
 pub head-written : (letter : ℕ) (ns rest s : List ℕ) → length ns ≡ 2 → s ≡ lineOf letter ns ++ rest → HeadBack letter (getD ns 0 0) (getD ns 1 0) s

@@ -1,7 +1,7 @@
 -- What the lines that were gone through have in them, one line after the other. Assumes nothing.
 use mathlib.Core.Path.{_≡_, refl, sym, ap, subst, _∙_}
 use mathlib.Core.Logic.{_⊎_, ⊎-elim}
-use mathlib.Core.Bool.{Bool, cond}
+use mathlib.Core.Bool.{Bool, true, false, cond}
 use mathlib.Core.List.{List, [], _∷_, _++_, append-assoc, append-nil}
 use Prim.Native.Nat.{ℕ, zero, suc, _+_, _-_, _^_, _≤_, _<_}
 use native.Mathlib.Omega.{arith}
@@ -21,7 +21,7 @@ use Rattle.trace.specs.declared.events.Event.the-variants.{Arrival, Tick}
 use Rattle.trace.specs.declared.summary.Summary.{Summary}
 use Rattle.trace.specs.Line.{headIn, eventIn}
 use Rattle.trace.specs.Text.{lineLength, linesOf, Cut, LosesNothing}
-use Rattle.trace.specs.Counting.{counted, Countable}
+use Rattle.trace.specs.Counting.{raised, tallied, counted, Placed, Countable}
 use Rattle.trace.specs.Inspection.{forPorts, eventFor, portsOf, refusalAt, isArrival, isArrivalFor, isTick, howMany, Whole, Damaged, AddsUp}
 use Rattle.trace.proofs.Cutting.{line-some, no-line}
 use Rattle.trace.proofs.Verdicts.{err-ok, unless-ok, ok-same}
@@ -61,6 +61,10 @@ for-ports n (Err refusal) e h = absurd (err-ok h)
 pub event-taken : (n : ℕ) (s : List ℕ) (e : Event) → eventFor n s ≡ Ok e → (eventIn s ≡ Ok e) × InPorts n e
 event-taken n s e h = for-ports n (eventIn s) e h
 
+fewer-ports : (e : Event) (n : ℕ) → n ≤ 256 → InPorts n e → InPorts 256 e
+fewer-ports (Arrival port tag) n h inside = omega arith
+fewer-ports Tick n h inside = tt
+
 -- one more line
 count-push : (kind : Result Event Refusal → Bool) (es : List (List ℕ)) (s : List ℕ) (e : Event) → eventIn s ≡ Ok e → howMany kind (es ++ s ∷ []) ≡ howMany kind es + cond (kind (Ok e)) 1 0
 count-push kind es s e h =
@@ -88,33 +92,45 @@ tally-push tally port p h =
     ∙ ap (λ b. getD tally p 0 + cond b 1 0) (sym (ne-eqb port p (λ e. ne (sym e)))))
     (cases-eq p port)
 
-pub counts-more : (es : List (List ℕ)) (s : Summary) (line : List ℕ) (e : Event) → s .ports ≤ 256 → Counts es s → eventFor (s .ports) line ≡ Ok e → Counts (es ++ line ∷ []) (counted s e)
-counts-more es s line (Arrival port tag) few c h =
-    let t = event-taken (s .ports) line (Arrival port tag) h in
-    let inside : port < length (s .tally) = omega (arith, t .1, c .wide) in
-    record {
-      taken = taken-push (s .ports) es line (Arrival port tag) (c .taken) h;
-      lines = omega (arith, c .lines, length-push es line);
-      arrivals = omega (arith, c .arrivals, count-push isArrival es line (Arrival port tag) (t .0));
-      ticks = omega (arith, c .ticks, count-push isTick es line (Arrival port tag) (t .0));
-      tally = λ p l. tally-push (s .tally) port p inside ∙ ap (λ n. n + cond (eqb port p) 1 0) (c .tally p l) ∙ sym (count-push (isArrivalFor p) es line (Arrival port tag) (t .0));
-      wide = length-set (s .tally) port (getD (s .tally) port 0 + 1) ∙ c .wide;
-      adds = record {
-        lines = omega (arith, c .adds .lines);
-        ports = omega (arith, c .adds .ports, sumBy-set (λ x. x) (s .tally) port (getD (s .tally) port 0 + 1) 0 inside);
-      };
-    }
-counts-more es s line Tick few c h =
-    let t = event-taken (s .ports) line Tick h in
-    record {
-      taken = taken-push (s .ports) es line Tick (c .taken) h;
-      lines = omega (arith, c .lines, length-push es line);
-      arrivals = omega (arith, c .arrivals, count-push isArrival es line Tick (t .0));
-      ticks = omega (arith, c .ticks, count-push isTick es line Tick (t .0));
-      tally = λ p l. omega (arith, c .tally p l, count-push (isArrivalFor p) es line Tick (t .0));
-      wide = c .wide;
-      adds = record { lines = omega (arith, c .adds .lines); ports = c .adds .ports };
-    }
+raised-is : (b : Bool) (n : ℕ) → raised b n ≡ n + cond b 1 0
+raised-is true n = refl
+raised-is false n = omega arith
+
+-- what one more event makes of a count, of the tally, and of their sums
+module _ (es : List (List ℕ)) (s : Summary) (line : List ℕ) (c : Counts es s) where
+  howMany-more : (kind : Result Event Refusal → Bool) (n : ℕ) (e : Event) → n ≡ howMany kind es → eventIn line ≡ Ok e → raised (kind (Ok e)) n ≡ howMany kind (es ++ line ∷ [])
+  howMany-more kind n e h is =
+      raised-is (kind (Ok e)) n ∙ ap (λ m. m + cond (kind (Ok e)) 1 0) h ∙ sym (count-push kind es line e is)
+
+  tally-more : (e : Event) → eventIn line ≡ Ok e → InPorts 256 e → (p : ℕ) → p < 256 → getD (tallied (s .tally) e) p 0 ≡ howMany (isArrivalFor p) (es ++ line ∷ [])
+  tally-more (Arrival port tag) is inside p l =
+      tally-push (s .tally) port p (omega (arith, c .wide)) ∙ ap (λ n. n + cond (eqb port p) 1 0) (c .tally p l) ∙ sym (count-push (isArrivalFor p) es line (Arrival port tag) is)
+  tally-more Tick is inside p l = omega (arith, c .tally p l, count-push (isArrivalFor p) es line Tick is)
+
+  wide-more : (e : Event) → length (tallied (s .tally) e) ≡ 256
+  wide-more (Arrival port tag) = length-set (s .tally) port (getD (s .tally) port 0 + 1) ∙ c .wide
+  wide-more Tick = c .wide
+
+  adds-more : (e : Event) → InPorts 256 e → AddsUp (counted s e)
+  adds-more (Arrival port tag) inside = record {
+    lines = omega (arith, c .adds .lines);
+    ports = omega (arith, c .adds .ports, sumBy-set (λ x. x) (s .tally) port (getD (s .tally) port 0 + 1) 0 (omega (arith, c .wide)));
+  }
+  adds-more Tick inside = record { lines = omega (arith, c .adds .lines); ports = c .adds .ports }
+
+  pub counts-more : (e : Event) → s .ports ≤ 256 → eventFor (s .ports) line ≡ Ok e → Counts (es ++ line ∷ []) (counted s e)
+  counts-more e few h =
+      let t = event-taken (s .ports) line e h in
+      let inside = fewer-ports e (s .ports) few (t .1) in
+      record {
+        taken = taken-push (s .ports) es line e (c .taken) h;
+        lines = omega (arith, c .lines, length-push es line);
+        arrivals = howMany-more isArrival (s .arrivals) e (c .arrivals) (t .0);
+        ticks = howMany-more isTick (s .ticks) e (c .ticks) (t .0);
+        tally = tally-more e (t .0) inside;
+        wide = wide-more e;
+        adds = adds-more e inside;
+      }
 
 pub counts-none : (rule ports cells : ℕ) → Counts [] (record { rule = rule; ports = ports; cells = cells; lines = 1; arrivals = 0; ticks = 0; tally = replicate 256 0 })
 counts-none rule ports cells = record {
@@ -156,6 +172,10 @@ damaged-at first es more line s h c refusal e =
       before = λ i l. none-before first es (line ∷ more) s h c i (omega (arith, c .lines));
     }
 
+-- an empty text gives an empty line
+cut-empty : (t l r : List ℕ) → Cut t l r → length t ≡ 0 → l ≡ []
+cut-empty t l r c empty = c .front ∙ nil-from-length (take (lineLength t) t) (simp length-take (omega arith))
+
 -- a text begins with the line that is cut off, also where it is empty
 first-line-is : (t l r : List ℕ) → Cut t l r → LosesNothing t l r → getD (linesOf t) 0 [] ≡ l
 first-line-is t l r c k =
@@ -163,7 +183,7 @@ first-line-is t l r c k =
     (λ (some : 0 < length t). ap (λ ls. getD ls 0 []) (k .next some))
     (λ (none : length t ≤ 0).
     let empty : length t ≡ 0 = omega arith in
-    ap (λ ls. getD ls 0 []) (k .end empty) ∙ sym (c .front ∙ nil-from-length (take (lineLength t) t) (simp length-take (omega arith))))
+    ap (λ ls. getD ls 0 []) (k .end empty) ∙ sym (cut-empty t l r c empty))
     (cases-lt 0 (length t))
 
 -- the rest is shorter by the line that was cut off
@@ -183,49 +203,30 @@ sofar-none text first rest rule ports cells some c k h few = record {
 }
 
 module _ (text : List ℕ) (s : Summary) (rest line after : List ℕ) (f : Sofar text s rest) (some : 0 < length rest) (c : Cut rest line after) (k : LosesNothing rest line after) where
-  split-more : linesOf text ≡ f .first ∷ ((f .es ++ line ∷ []) ++ linesOf after)
-  split-more = f .split ∙ ap (λ l. f .first ∷ l) (ap (λ l. f .es ++ l) (k .next some) ∙ sym (append-assoc (f .es) (line ∷ []) (linesOf after)))
-
-  room-more : s .lines + 1 + length after ≤ length text
-  room-more = omega (arith, f .room, cut-shorter rest line after some c)
-
   -- one more line was taken
   pub sofar-more : (e : Event) → eventFor (s .ports) line ≡ Ok e → Sofar text (counted s e) after
-  sofar-more (Arrival port tag) h = record {
+  sofar-more e h = record {
     first = f .first;
     es = f .es ++ line ∷ [];
-    split = split-more;
+    split = f .split ∙ ap (λ l. f .first ∷ l) (ap (λ l. f .es ++ l) (k .next some) ∙ sym (append-assoc (f .es) (line ∷ []) (linesOf after)));
     head = f .head;
     few = f .few;
-    counts = counts-more (f .es) s line (Arrival port tag) (f .few) (f .counts) h;
-    room = room-more;
-  }
-  sofar-more Tick h = record {
-    first = f .first;
-    es = f .es ++ line ∷ [];
-    split = split-more;
-    head = f .head;
-    few = f .few;
-    counts = counts-more (f .es) s line Tick (f .few) (f .counts) h;
-    room = room-more;
+    counts = counts-more (f .es) s line (f .counts) e (f .few) h;
+    room = omega (arith, f .room, cut-shorter rest line after some c);
   }
 
   -- there is room to count it
+  placed : (e : Event) → InPorts 256 e → Placed s e
+  placed (Arrival port tag) inside =
+      (inside, omega (arith, f .counts .adds .ports, getD-le-sumBy (λ x. x) (s .tally) port 0 (omega (arith, f .counts .wide))))
+  placed Tick inside = tt
+
   pub sofar-countable : (e : Event) → eventFor (s .ports) line ≡ Ok e → length text < 2 ^ 63 → Countable s e
-  sofar-countable (Arrival port tag) h short =
-      let t = event-taken (s .ports) line (Arrival port tag) h in
-      let inside : port < length (s .tally) = omega (arith, t .1, f .few, f .counts .wide) in
-      record {
-        arrivals = omega (arith, f .counts .adds .lines);
-        ticks = omega (arith, f .counts .adds .lines);
-        lines = omega (arith, f .room);
-        placed = (omega (arith, t .1, f .few), omega (arith, f .counts .adds .ports, getD-le-sumBy (λ x. x) (s .tally) port 0 inside));
-      }
-  sofar-countable Tick h short = record {
+  sofar-countable e h short = record {
     arrivals = omega (arith, f .counts .adds .lines);
     ticks = omega (arith, f .counts .adds .lines);
     lines = omega (arith, f .room);
-    placed = tt;
+    placed = placed e (fewer-ports e (s .ports) (f .few) (event-taken (s .ports) line e h .1));
   }
 
   -- the line is refused: it is the first
@@ -256,6 +257,6 @@ head-some text first rest h c ok =
     ⊎-elim
     (λ (some : 0 < length text). some)
     (λ (none : length text ≤ 0).
-    let empty : first ≡ [] = c .front ∙ nil-from-length (take (lineLength text) text) (simp length-take (omega arith)) in
+    let empty : first ≡ [] = cut-empty text first rest c (omega arith) in
     absurd (err-ok (ap headIn (sym empty) ∙ ok)))
     (cases-lt 0 (length text))

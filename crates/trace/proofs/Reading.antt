@@ -26,9 +26,6 @@ pub record Front (bs : List ℕ) (begun : Bool) (value : ℕ) : Type 0 where
   pub idle : begun ≡ false → value ≡ 0
   pub fits : value < 2 ^ 32
 
-pub front-none : Front [] false 0
-front-none = record { spaces = 0; is = refl; idle = λ _. refl; fits = omega arith }
-
 pub front-space : (bs : List ℕ) (value : ℕ) → Front bs false value → Front (bs ++ 32 ∷ []) false value
 front-space bs value f = record {
   spaces = f .spaces + 1;

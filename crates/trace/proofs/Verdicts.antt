@@ -169,24 +169,22 @@ from-event s Tick is = ap eventIn is
 pub event-back : (s : List ℕ) → ReadsBack IsEvent s (eventIn s)
 event-back s e = (event-from s e, from-event s e)
 
--- an answer that goes by what was found in the line is that of the definition, and reads back what was written
-abbrev HeadAnswer : List ℕ → Result (ℕ × ℕ × ℕ) Refusal → Type 0
-HeadAnswer s r = (r ≡ headIn s) × ReadsBack IsHead s r
+-- an answer r that goes by what was found in the line is that of the definition d, and reads back what was written
+abbrev Answer : {X : Type 0} → (List ℕ → X → Type 0) → List ℕ → Result X Refusal → Result X Refusal → Type 0
+Answer Is s d r = (r ≡ d) × ReadsBack Is s r
 
-pub head-answer : (s : List ℕ) {shape letter : Bool} {numbers : Result (ℕ × ℕ) Refusal} (r : Result (ℕ × ℕ × ℕ) Refusal) → shape ≡ shaped s → letter ≡ opens (getD s 0 0) → numbers ≡ numbersIn s → r ≡ headBy shape letter numbers (getD s 0 0) → HeadAnswer s r
+answered : {X : Type 0} (Is : List ℕ → X → Type 0) (s : List ℕ) (d r : Result X Refusal) → ReadsBack Is s d → r ≡ d → Answer Is s d r
+answered Is s d r back is = (is, subst (ReadsBack Is s) (sym is) back)
+
+pub head-answer : (s : List ℕ) {shape letter : Bool} {numbers : Result (ℕ × ℕ) Refusal} (r : Result (ℕ × ℕ × ℕ) Refusal) → shape ≡ shaped s → letter ≡ opens (getD s 0 0) → numbers ≡ numbersIn s → r ≡ headBy shape letter numbers (getD s 0 0) → Answer IsHead s (headIn s) r
 unfolding headIn
 head-answer s r shape letter numbers e =
-    let is : r ≡ headIn s = e ∙ (λ i. headBy (shape i) (letter i) (numbers i) (getD s 0 0)) in
-    (is, subst (ReadsBack IsHead s) (sym is) (head-back s))
+    answered IsHead s (headIn s) r (head-back s) (e ∙ (λ i. headBy (shape i) (letter i) (numbers i) (getD s 0 0)))
 
-abbrev EventAnswer : List ℕ → Result Event Refusal → Type 0
-EventAnswer s r = (r ≡ eventIn s) × ReadsBack IsEvent s r
-
-pub event-answer : (s : List ℕ) {shape is-a is-t : Bool} (r : Result Event Refusal) → shape ≡ shaped s → is-a ≡ eqb (getD s 0 0) 65 → is-t ≡ eqb (getD s 0 0) 84 → r ≡ eventBy shape is-a is-t (arrivalIn s) (tickIn s) → EventAnswer s r
+pub event-answer : (s : List ℕ) {shape is-a is-t : Bool} (r : Result Event Refusal) → shape ≡ shaped s → is-a ≡ eqb (getD s 0 0) 65 → is-t ≡ eqb (getD s 0 0) 84 → r ≡ eventBy shape is-a is-t (arrivalIn s) (tickIn s) → Answer IsEvent s (eventIn s) r
 unfolding eventIn
 event-answer s r shape is-a is-t e =
-    let is : r ≡ eventIn s = e ∙ (λ i. eventBy (shape i) (is-a i) (is-t i) (arrivalIn s) (tickIn s)) in
-    (is, subst (ReadsBack IsEvent s) (sym is) (event-back s))
+    answered IsEvent s (eventIn s) r (event-back s) (e ∙ (λ i. eventBy (shape i) (is-a i) (is-t i) (arrivalIn s) (tickIn s)))
 
 -- the tests on a letter and on a number
 pub does-open : (c : ℕ) → (c ≡ 76) ⊎ (c ≡ 79) ⊎ (c ≡ 82) → true ≡ opens c

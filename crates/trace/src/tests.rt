@@ -1,6 +1,4 @@
 // tests.rt — the edges of each call, as tables.
-use crate::events::EventDebug;
-use crate::events::EventPartialEq;
 use crate::*;
 use refusal::FieldPlace;
 use refusal::Refusal;
