@@ -79,7 +79,7 @@ impl Refusal {
             Refusal::PortCount => "the number of ports is outside 1 to 256",
             Refusal::CellCount => "the number of cells is outside 1 to 4096",
             Refusal::NotInState => "the switch is not in the state for this call",
-            Refusal::NoSuchPort => "the port is not one of the switch's ports",
+            Refusal::NoSuchPort => "the port is at or above the number of ports",
             Refusal::FewPlaces => "fewer places were handed than the switch has cells",
             Refusal::EventsSpent => "the switch has taken its 90000000 events",
             Refusal::ShortLists =>
@@ -87,7 +87,7 @@ impl Refusal {
             Refusal::LineShape => "the line is not 18 octets that end in octet 10",
             Refusal::Letter => "the letter is not one that may stand here",
             Refusal::Field(_) => "the field does not show a number, or is not blank on a T line",
-            Refusal::ShortText => "the text space is shorter than the line needs",
+            Refusal::ShortText => "the text space is too short",
             Refusal::NoSpellLeft => "no loss spell is left",
             Refusal::IdBeyondCapacity => "the id is at or above the heap's capacity",
             Refusal::IdInUse => "the id is in use",

@@ -21,10 +21,11 @@ abbrev pub allFit : List ℕ → Bool
 allFit [] = true
 allFit (n ∷ ns) = leb n greatest && allFit ns
 
--- too large a number is refused before too short a space
+-- the number of octets written; too large a number is refused before too short a space
 abbrev pub answerOf : List ℕ → ℕ → ℕ → List ℕ → Result ℕ Refusal
 answerOf ns least n s = unless (allFit ns) NumberTooLarge (unless (leb least (length s)) ShortText (Ok n))
 
+-- the octets out in front of the rest of the space, or the space as it was found
 abbrev pub after : Result ℕ Refusal → List ℕ → List ℕ → List ℕ
 after (Ok n) out s = out ++ drop n s
 after (Err refusal) out s = s

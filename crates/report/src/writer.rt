@@ -48,7 +48,7 @@ pub fn write_head(text: &mut [u8], letter: u8, ports: u32, cells: u32) -> Result
     write(text, letter, &[ports, cells])
 }
 
-// Writes the X line, which says why a trace was not read to its end: 34 octets.
+// Writes the X line (88 is the octet X), which says why a trace was not read to its end: 34 octets.
 pub fn write_refusal(
     text: &mut [u8],
     line: u32,

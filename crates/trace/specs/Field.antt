@@ -23,10 +23,11 @@ greatest = 99999999
 abbrev pub justified : List ℕ → List ℕ
 justified bs = replicate (8 - length bs) 32 ++ bs
 
--- `decimal n` is what `{n}` prints
+-- the field of n: its decimal digits, as `{n}` prints them, at the end of eight columns
 unfoldable pub field : ℕ → List ℕ
 field n = justified (decimal n)
 
+-- a blank field: nothing at the end of eight columns
 abbrev pub blank : List ℕ
 blank = justified []
 
@@ -39,6 +40,7 @@ readOn n (c ∷ cs) = readOn (cond (eqb c 32) n (n * 10 + (c - 48))) cs
 unfoldable pub numberIn : List ℕ → Option ℕ
 numberIn bs = cond (leb (readOn 0 bs) greatest && sameBytes bs (field (readOn 0 bs))) (Some (readOn 0 bs)) None
 
+-- r is the number whose field the octets are; None, where they are the field of no number
 abbrev pub Shows : List ℕ → Option ℕ → Type 0
 Shows bs (Some n) = (n ≤ greatest) × (bs ≡ field n)
 Shows bs None = (n : ℕ) → n ≤ greatest → bs ≡ field n → ⊥

@@ -30,6 +30,7 @@ forPorts n (Ok (Arrival port tag)) = unless (ltb port n) NoSuchPort (Ok (Arrival
 forPorts n (Ok Tick) = Ok Tick
 forPorts n (Err refusal) = Err refusal
 
+-- the event that a line is, for one of n ports
 abbrev pub eventFor : ℕ → List ℕ → Result Event Refusal
 eventFor n s = forPorts n (eventIn s)
 
@@ -43,6 +44,7 @@ abbrev pub refusalAt : List (List ℕ) → ℕ → Option Refusal
 refusalAt ls zero = errPart (headIn (getD ls 0 []))
 refusalAt ls (suc i) = errPart (eventFor (portsOf (headIn (getD ls 0 []))) (getD ls (suc i) []))
 
+-- kinds of lines, by what a line is read as: an arrival, an arrival for port p, a tick
 abbrev pub isArrival : Result Event Refusal → Bool
 isArrival (Ok (Arrival port tag)) = true
 isArrival (Ok Tick) = false
@@ -58,11 +60,11 @@ isTick (Ok (Arrival port tag)) = false
 isTick (Ok Tick) = true
 isTick (Err refusal) = false
 
--- a line that is refused is no event
+-- how many of the lines are of a kind
 abbrev pub howMany : (Result Event Refusal → Bool) → List (List ℕ) → ℕ
 howMany kind ls = countBy (λ s. kind (eventIn s)) ls
 
--- drop 1 ls: the lines after the head
+-- the head is read, no line is refused, and the counts are those of the lines after the head, which are drop 1 ls
 pub record Whole (ls : List (List ℕ)) (s : Summary) : Type 0 where
   pub head : headIn (getD ls 0 []) ≡ Ok (s .rule, s .ports, s .cells)
   pub taken : (i : ℕ) → i < length ls → refusalAt ls i ≡ None
@@ -71,7 +73,7 @@ pub record Whole (ls : List (List ℕ)) (s : Summary) : Type 0 where
   pub ticks : s .ticks ≡ howMany isTick (drop 1 ls)
   pub tally : (p : ℕ) → p < 256 → getD (s .tally) p 0 ≡ howMany (isArrivalFor p) (drop 1 ls)
 
--- lines are named from 1; a text with no line is refused at line 1
+-- the line that is named is refused for this reason, and no line before it is; lines are named from 1, and a text with no line is refused at line 1
 pub record Damaged (ls : List (List ℕ)) (d : Damage) : Type 0 where
   pub within : (0 < d .line) × (d .line ≤ max 1 (length ls))
   pub here : refusalAt ls (d .line - 1) ≡ Some (d .refusal)

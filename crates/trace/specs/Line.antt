@@ -65,6 +65,7 @@ withBoth (Err refusal) answer = Err refusal
 abbrev pub opens : ℕ → Bool
 opens c = eqb c 76 || (eqb c 82 || eqb c 79)
 
+-- n is one of low to high
 abbrev pub inRange : ℕ → ℕ → ℕ → Bool
 inRange low high n = leb low n && leb n high
 
@@ -89,7 +90,7 @@ tickIn s =
     (unless (sameBytes (fieldAt 1 s) blank) (Field Second)
     (Ok Tick))
 
--- shape, letter, first field, second field
+-- shape, letter (65 is A, 84 is T), first field, second field: the first that is wrong is the refusal
 unfoldable pub eventIn : List ℕ → Result Event Refusal
 eventIn s =
     unless (shaped s) LineShape
@@ -104,6 +105,7 @@ pub record IsHead (s : List ℕ) (h : ℕ × ℕ × ℕ) : Type 0 where
   pub cells : (1 ≤ h .2) × (h .2 ≤ 4096)
   pub octets : s ≡ lineOf (h .0) (h .1 ∷ h .2 ∷ [])
 
+-- the line of an arrival for this port with this tag, and the line of a tick
 abbrev pub IsEvent : List ℕ → Event → Type 0
 IsEvent s (Arrival port tag) = (port ≤ greatest) × (tag ≤ greatest) × (s ≡ lineOf 65 (port ∷ tag ∷ []))
 IsEvent s Tick = s ≡ tickLine

@@ -25,6 +25,7 @@ unfoldable pub linesOf : List ℕ → List (List ℕ)
 linesOf [] = []
 linesOf (c ∷ cs) = cond (eqb c 10) ((c ∷ []) ∷ linesOf cs) (inFront c (linesOf cs))
 
+-- l and r are the text t, cut behind its first line
 pub record Cut (t l r : List ℕ) : Type 0 where
   pub front : l ≡ take (lineLength t) t
   pub back : r ≡ drop (lineLength t) t
