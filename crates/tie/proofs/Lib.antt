@@ -1,0 +1,3 @@
+pub mod Layers
+pub mod Picking
+pub mod Turning

@@ -1,0 +1,72 @@
+-- Going round the ports from a start: the step at which a port comes is its distance, so the first marked port that comes is chosen. Assumes nothing.
+use mathlib.Core.Path.{_≡_, sym, ap, subst, _∙_}
+use mathlib.Core.Logic.{⊎-elim}
+use mathlib.Core.Bool.{Bool, true, false}
+use mathlib.Core.List.{List}
+use Prim.Native.Nat.{ℕ, _+_, _-_, _%_, _≤_, _<_}
+use native.Mathlib.Nat.{mod-lt, mod-eq-of-lt, mod-add-mod, add-mod-mod, add-mod-right}
+use native.Mathlib.Omega.{arith}
+use lib.ListN.{length}
+use Rattle.std.proofs.shelf.Tests.{both-ways, cases-lt}
+use Rattle.tie.specs.declared.candidate.Candidate.{Candidate}
+use Rattle.tie.specs.Candidates.{thatCount, marked}
+use Rattle.tie.specs.Rules.{picked, Chosen, distance, GoesRound}
+use Rattle.tie.proofs.Picking.{counts, chosen-none, picked-chosen}
+
+-- the port that comes at a step, going round n ports from s
+abbrev pub turn : ℕ → ℕ → ℕ → ℕ
+turn n s step = (s % n + step) % n
+
+module _ (n s : ℕ) where
+  -- a port comes at the step that is its distance
+  pub turn-distance : (q : ℕ) → q < n → turn n s (distance n s q) ≡ q
+  turn-distance q l =
+      let small : s % n < n = mod-lt s (omega arith) in
+      let around : s % n + (q + (n - s % n)) ≡ q + n = omega arith in
+      add-mod-mod (s % n) (q + (n - s % n)) n ∙ ap (λ k. k % n) around ∙ add-mod-right q n ∙ mod-eq-of-lt l
+
+  -- the distance of the port that comes at a step is that step
+  pub distance-turn : (step : ℕ) → step < n → distance n s (turn n s step) ≡ step
+  distance-turn step l =
+      let small : s % n < n = mod-lt s (omega arith) in
+      let around : s % n + step + (n - s % n) ≡ step + n = omega arith in
+      mod-add-mod (s % n + step) n (n - s % n) ∙ ap (λ k. k % n) around ∙ add-mod-right step n ∙ mod-eq-of-lt l
+
+  pub goes-round : GoesRound n s
+  goes-round = record {
+    below = λ p l. mod-lt (p + (n - s % n)) (omega arith);
+    there = λ p l. sym (mod-add-mod s n (distance n s p)) ∙ turn-distance p l;
+    only = λ p d l h e. sym (distance-turn d h) ∙ ap (distance n s) (mod-add-mod s n d ∙ e);
+  }
+
+-- n candidates count
+module _ (cs : List Candidate) (n s : ℕ) (all : n ≡ length (thatCount cs)) where
+  -- a port that does not come marked before its distance is not marked
+  comes : (q : ℕ) → marked cs q ≡ true → marked cs (turn n s (distance n s q)) ≡ true
+  comes q t = subst (λ k. marked cs k ≡ true) (sym (turn-distance n s q (omega (arith, counts cs q t)))) t
+
+  -- the marked port that comes first is chosen
+  pub chosen-turn : (step : ℕ) → step < n → marked cs (turn n s step) ≡ true → ((d : ℕ) → d < step → marked cs (turn n s d) ≡ false) → Chosen (distance n s) cs (turn n s step)
+  chosen-turn step l e before =
+      let own : distance n s (turn n s step) ≡ step = distance-turn n s step l in
+      let later : (q : ℕ) → marked cs q ≡ true → step ≤ distance n s q = λ q t. ⊎-elim
+          (λ (early : distance n s q < step). absurd (both-ways (marked cs (turn n s (distance n s q))) (before (distance n s q) early) (comes q t)))
+          (λ (h : step ≤ distance n s q). h)
+          (cases-lt (distance n s q) step) in
+      record {
+        some = λ q t. e;
+        none = λ h. absurd (both-ways (marked cs (turn n s step)) (h (turn n s step)) e);
+        least = λ q t. omega (arith, own, later q t);
+        first = λ q t k. let same : turn n s step ≡ q = ap (turn n s) (sym own ∙ sym k) ∙ turn-distance n s q (omega (arith, counts cs q t)) in omega arith;
+      }
+
+  -- where no port that comes is marked, none is
+  pub chosen-round : ((d : ℕ) → d < n → marked cs (turn n s d) ≡ false) → Chosen (distance n s) cs 256
+  chosen-round never = chosen-none (distance n s) cs (λ q t.
+      both-ways (marked cs (turn n s (distance n s q))) (never (distance n s q) (goes-round n s .below q (omega (arith, counts cs q t)))) (comes q t))
+
+  -- an answer that is chosen, as a contract states it
+  pub as-nearest : (p : ℕ) → Chosen (distance n s) cs p → let k = length (thatCount cs) in record { value : p ≡ picked (distance k s) cs; law : Chosen (distance k s) cs p; round : GoesRound k s }
+  as-nearest p h =
+      let chosen = subst (λ k. Chosen (distance k s) cs p) all h in
+      record { value = picked-chosen (distance (length (thatCount cs)) s) cs p chosen; law = chosen; round = goes-round (length (thatCount cs)) s }

@@ -1,0 +1,37 @@
+-- The candidates that a tie rule is given, one for each port, from port 0 on. Assumes nothing.
+--     thatCount cs       the candidates that count
+--     marked cs p        port p counts and is marked
+--     stamp cs p         the stamp of port p
+--     markedPorts cs     the marked ports, from the lowest up
+--     byPort n f         a list with an entry for each of n ports
+use mathlib.Core.Bool.{Bool, false}
+use mathlib.Core.List.{List, map}
+use Prim.Native.Nat.{ℕ}
+use lib.ListN.{length, take, getD}
+use Rattle.std.specs.Iters.{counting}
+use Rattle.std.specs.shelf.Lists.{kept-by}
+use Rattle.tie.specs.declared.candidate.Candidate.{Candidate}
+
+-- f of each of the ports 0 to n - 1
+abbrev pub byPort : {X : Type 0} → ℕ → (ℕ → X) → List X
+byPort n f = map f (counting 0 n)
+
+-- only the first 256 candidates count
+abbrev pub thatCount : List Candidate → List Candidate
+thatCount cs = take 256 cs
+
+-- what is read of a port that has no candidate
+abbrev pub nobody : Candidate
+nobody = record { marked = false; stamp = 0 }
+
+-- whether port p counts and is marked
+abbrev pub marked : List Candidate → ℕ → Bool
+marked cs p = getD (thatCount cs) p nobody .marked
+
+-- the stamp of port p
+abbrev pub stamp : List Candidate → ℕ → ℕ
+stamp cs p = getD (thatCount cs) p nobody .stamp
+
+-- the marked ports, from the lowest up
+abbrev pub markedPorts : List Candidate → List ℕ
+markedPorts cs = kept-by (marked cs) (counting 0 (length (thatCount cs)))
