@@ -2,25 +2,24 @@
 use mathlib.Core.Path.{_≡_, refl, sym, ap, subst, _∙_}
 use mathlib.Core.Logic.{⊎-elim}
 use mathlib.Core.Bool.{Bool, true, false, cond, not, _&&_}
-use mathlib.Core.List.{List, map}
-use Prim.Native.Nat.{ℕ, _+_, _*_, _≤_, _<_}
+use mathlib.Core.List.{List}
+use Prim.Native.Nat.{ℕ, _+_, _-_, _≤_, _<_}
 use native.Mathlib.Omega.{arith}
 use lib.Dec.{ltb}
 use lib.ListN.{length, take, getD, set}
 use Rattle.std.specs.Iters.{counting}
-use Rattle.std.specs.shelf.Lists.{All, countBy, sumBy}
+use Rattle.std.specs.shelf.Lists.{countBy}
 use Rattle.std.proofs.shelf.Counted.{length-counting, getD-counting, length-map-counting, getD-map-counting, fill-by-all}
 use Rattle.std.proofs.shelf.Edits.{fill-by-more}
 use Rattle.std.proofs.shelf.Elements.{all-from-getD}
 use Rattle.std.proofs.shelf.Lists.{take-all, take-take, length-set, length-take-le, getD-take, getD-past, ext-getD}
 use Rattle.std.proofs.shelf.Sums.{sumBy-le, getD-le-sumBy}
-use Rattle.std.proofs.shelf.Tests.{cases-bool, cases-lt, both-ways, lt-ltb, le-ltb, and-parts, and-from}
+use Rattle.std.proofs.shelf.Tests.{cases-bool, cases-lt, both-ways, lt-ltb, le-ltb, and-parts, and-right}
 use Rattle.tie.specs.declared.candidate.Candidate.{Candidate}
-use Rattle.tie.specs.declared.sheltering.Sheltering.{Sheltering}
-use Rattle.tie.specs.Candidates.{byPort, thatCount, nobody, marked, stamp}
+use Rattle.tie.specs.Candidates.{thatCount, nobody, marked, stamp}
 use Rattle.tie.specs.Rules.{Lawful}
 use Rattle.tie.specs.Sheltered.{sheltered, exposed, exposes, unmarked, handedDown, layered}
-use Rattle.tie.proofs.Picking.{refuted, few, counts}
+use Rattle.tie.proofs.Picking.{refuted, few}
 
 -- 1 where the port passes
 hit : (ℕ → Bool) → ℕ → ℕ
@@ -38,10 +37,10 @@ none-counted : (f : ℕ → Bool) (n : ℕ) → ((p : ℕ) → p < n → f p ≡
 unfolding hit
 none-counted f n h =
     let each : (i : ℕ) → i < length (counting 0 n) → hit f (getD (counting 0 n) i 0) ≤ 0 = λ i l.
-        let within : i < n = omega (arith, length-counting 0 n) in
-        let here : getD (counting 0 n) i 0 ≡ i = getD-counting 0 n i 0 within ∙ omega arith in
-        let zero : hit f (getD (counting 0 n) i 0) ≡ 0 = ap (hit f) here ∙ ap (λ b. cond b 1 0) (h i within) in
-        omega arith in
+    let within : i < n = omega (arith, length-counting 0 n) in
+    let here : getD (counting 0 n) i 0 ≡ i = getD-counting 0 n i 0 within ∙ omega arith in
+    let zero : hit f (getD (counting 0 n) i 0) ≡ 0 = ap (hit f) here ∙ ap (λ b. cond b 1 0) (h i within) in
+    omega arith in
     le-ltb 0 _ (omega (arith, sumBy-le (hit f) 0 (counting 0 n) (all-from-getD (λ k. hit f k ≤ 0) (counting 0 n) 0 each)))
 
 -- of the candidates that count all count
@@ -64,40 +63,47 @@ module _ (table : List Bool) (cs : List Candidate) where
       (λ (h : length (thatCount cs) ≤ p). ap (λ (c : Candidate). c .marked) (getD-past (unmarked table cs) p nobody (omega (arith, length-unmarked))) ∙ sym (exposed-past p h))
       (cases-lt p (length (thatCount cs)))
 
--- the candidate of port p as it goes down, where b says whether the sheltered ones are unmarked
-abbrev pub goesDown : List Bool → List Candidate → Bool → ℕ → Candidate
-goesDown table cs b p = record { marked = marked cs p && not (b && sheltered table p); stamp = stamp cs p }
+-- a candidate, not marked if it is sheltered
+abbrev pub spared : Bool → Candidate → Candidate
+spared b c = cond b (record { marked = false; stamp = c .stamp }) c
 
--- the first i candidates have gone down to a table of 256
+spared-marked : (b : Bool) (c : Candidate) → spared b c ≡ record { marked = c .marked && not b; stamp = c .stamp }
+spared-marked true c = ap (λ (m : Bool). record { marked = m; stamp = c .stamp }) (sym (and-right (c .marked) false refl))
+spared-marked false c = ap (λ (m : Bool). record { marked = m; stamp = c .stamp }) (as-is (c .marked))
+  where
+    as-is : (m : Bool) → m ≡ (m && true)
+    as-is true = refl
+    as-is false = refl
+
+-- the first i candidates have gone down to a table of 256; b says whether the sheltered ones are unmarked
 abbrev pub Down : List Bool → List Candidate → Bool → ℕ → List Candidate → Type 0
-Down table cs b i below = (length below ≡ 256) × ((q : ℕ) → q < i → getD below q nobody ≡ goesDown table cs b q)
-
-as-is : (b : Bool) → (b && true) ≡ b
-as-is true = refl
-as-is false = refl
+Down table cs b i below = (length below ≡ 256) × ((q : ℕ) → q < i → getD below q nobody ≡ spared (b && sheltered table q) (getD (thatCount cs) q nobody))
 
 -- a list of the candidates as they go down
-gone-down : (table : List Bool) (cs : List Candidate) (b : Bool) (xs : List Candidate) → length xs ≡ length (thatCount cs) → ((q : ℕ) → q < length xs → getD xs q nobody ≡ goesDown table cs b q) → xs ≡ cond b (unmarked table cs) (thatCount cs)
-gone-down table cs true xs long at = fill-by-all _ xs (length (thatCount cs)) nobody long (λ q l. at q (omega arith))
-gone-down table cs false xs long at = ext-getD nobody xs (thatCount cs) long (λ q l. at q l ∙ ap (λ (b : Bool). record { marked = b; stamp = stamp cs q }) (as-is (marked cs q)))
+gone-down : (table : List Bool) (cs : List Candidate) (b : Bool) (xs : List Candidate) → length xs ≡ length (thatCount cs) → ((q : ℕ) → q < length xs → getD xs q nobody ≡ spared (b && sheltered table q) (getD (thatCount cs) q nobody)) → xs ≡ cond b (unmarked table cs) (thatCount cs)
+gone-down table cs true xs long at = fill-by-all _ xs (length (thatCount cs)) nobody long (λ q l. at q (omega arith) ∙ spared-marked (sheltered table q) (getD (thatCount cs) q nobody))
+gone-down table cs false xs long at = ext-getD nobody xs (thatCount cs) long at
 
 -- a list of at most 256 candidates, as the code goes through it
 module _ (table : List Bool) (cs : List Candidate) (short : length cs ≤ 256) where
-  pub whole : cs ≡ thatCount cs
+  whole : cs ≡ thatCount cs
   whole = sym (take-all 256 cs short)
 
-  pub exposes-some : (p : ℕ) → p < length cs → marked cs p ≡ true → sheltered table p ≡ false → exposes table cs ≡ true
-  exposes-some p l e f = some-counted (exposed table cs) (length (thatCount cs)) p (omega (arith, ap length whole)) (and-from _ _ e (ap not f))
+  pub read-exposed : (p : ℕ) (b : Bool) → b ≡ (getD cs p nobody .marked && not (sheltered table p)) → exposed table cs p ≡ b
+  read-exposed p b r = sym (r ∙ ap (λ (l : List Candidate). getD l p nobody .marked && not (sheltered table p)) whole)
+
+  pub exposes-some : (p : ℕ) → p < length cs → exposed table cs p ≡ true → exposes table cs ≡ true
+  exposes-some p l e = some-counted (exposed table cs) (length (thatCount cs)) p (omega (arith, ap length whole)) e
 
   pub exposes-none : ((p : ℕ) → p < length cs → exposed table cs p ≡ false) → exposes table cs ≡ false
   exposes-none h = none-counted (exposed table cs) (length (thatCount cs)) (λ p l. h p (omega (arith, ap length whole)))
 
   -- one more candidate goes down
-  pub down-more : (b : Bool) (below : List Candidate) (p : ℕ) (c : Candidate) → p < length cs → c ≡ record { marked = getD cs p nobody .marked && not (b && sheltered table p); stamp = getD cs p nobody .stamp } → Down table cs b p below → Down table cs b (p + 1) (set below p c)
+  pub down-more : (b : Bool) (below : List Candidate) (p : ℕ) (c : Candidate) → p < length cs → c ≡ spared (b && sheltered table p) (getD cs p nobody) → Down table cs b p below → Down table cs b (p + 1) (set below p c)
   down-more b below p c l e h =
-      let read : c ≡ goesDown table cs b p = e ∙ ap (λ (l : List Candidate). record { marked = getD l p nobody .marked && not (b && sheltered table p); stamp = getD l p nobody .stamp }) whole in
-      subst (λ x. Down table cs b (p + 1) (set below p x)) (sym read)
-      (length-set below p (goesDown table cs b p) ∙ h .0, fill-by-more (goesDown table cs b) below p nobody (omega (arith, h .0)) (h .1))
+      let f : ℕ → Candidate = λ q. spared (b && sheltered table q) (getD (thatCount cs) q nobody) in
+      let read : c ≡ f p = e ∙ ap (λ (l : List Candidate). spared (b && sheltered table p) (getD l p nobody)) whole in
+      subst (λ x. Down table cs b (p + 1) (set below p x)) (sym read) (length-set below p (f p) ∙ h .0, fill-by-more f below p nobody (omega (arith, h .0)) (h .1))
 
   -- all that count have gone down
   pub down-all : (b : Bool) (below : List Candidate) (i : ℕ) → length cs ≤ i → b ≡ exposes table cs → Down table cs b i below → take (length cs) below ≡ handedDown table cs
@@ -107,10 +113,12 @@ module _ (table : List Bool) (cs : List Candidate) (short : length cs ≤ 256) w
       subst (λ t. take (length cs) below ≡ cond t (unmarked table cs) (thatCount cs)) e
       (gone-down table cs b (take (length cs) below) (long ∙ ap length whole) (λ q l. getD-take (length cs) below q nobody (omega arith) ∙ h .1 q (omega arith)))
 
--- the candidates that count go down as all of them do
-pub down-counted : (table : List Bool) (cs counted : List Candidate) → counted ≡ thatCount cs → handedDown table counted ≡ handedDown table cs
+-- what the code hands down of the candidates that count is what goes down
+pub down-counted : (table : List Bool) (cs counted below : List Candidate) → counted ≡ thatCount cs → take (length counted) below ≡ handedDown table counted → take (length counted - 0) below ≡ handedDown table cs
 unfolding handedDown
-down-counted table cs counted is = ap (handedDown table) is ∙ simp (take-take 256 256 cs (omega arith), exposed, marked, stamp, thatCount)
+down-counted table cs counted below is down =
+    let part : length counted - 0 ≡ length counted = omega arith in
+    ap (λ n. take n below) part ∙ down ∙ ap (handedDown table) is ∙ simp (take-take 256 256 cs (omega arith), exposed, marked, stamp, thatCount)
 
 module _ {R : Type 0} (picks : R → List Candidate → ℕ) (law : Lawful picks) where
   -- what the rule below picks from the candidates that are handed down
@@ -119,8 +127,8 @@ module _ {R : Type 0} (picks : R → List Candidate → ℕ) (law : Lawful picks
     below-some p e true some = ⊎-elim
         (λ (h : marked (unmarked table cs) (picks rule (unmarked table cs)) ≡ true). and-parts _ _ (sym (marked-unmarked table cs _) ∙ h) .0)
         (λ (h : marked (unmarked table cs) (picks rule (unmarked table cs)) ≡ false).
-          let hidden : (q : ℕ) → q < length (thatCount cs) → exposed table cs q ≡ false = λ q l. refuted _ (λ t. both-ways _ h (law .some rule (unmarked table cs) q (marked-unmarked table cs q ∙ t))) in
-          absurd (both-ways (exposes table cs) (none-counted (exposed table cs) (length (thatCount cs)) hidden) some))
+        let hidden : (q : ℕ) → q < length (thatCount cs) → exposed table cs q ≡ false = λ q l. refuted _ (λ t. both-ways _ h (law .some rule (unmarked table cs) q (marked-unmarked table cs q ∙ t))) in
+        absurd (both-ways (exposes table cs) (none-counted (exposed table cs) (length (thatCount cs)) hidden) some))
         (cases-bool (marked (unmarked table cs) (picks rule (unmarked table cs))))
     below-some p e false none = sym (marked-counted cs _) ∙ law .some rule (thatCount cs) p (marked-counted cs p ∙ e)
 

@@ -2,27 +2,35 @@
 use mathlib.Core.Path.{_≡_, refl, sym, ap, subst, _∙_}
 use mathlib.Core.Logic.{⊎-elim}
 use mathlib.Core.Bool.{Bool, true, false, cond}
-use mathlib.Core.List.{List, [], _∷_, _++_, map, append-nil}
-use Prim.Native.Nat.{ℕ, zero, suc, _+_, _≤_, _<_, min}
+use mathlib.Core.List.{List, [], _∷_, _++_, append-nil}
+use Prim.Native.Nat.{ℕ, zero, suc, _+_, _≤_, _<_}
 use native.Mathlib.Numerals.{add-one}
 use native.Mathlib.Omega.{arith}
-use lib.Dec.{eqb, ltb}
-use lib.ListN.{length, take, getD}
+use lib.Dec.{ltb}
+use lib.ListN.{length, getD}
+use borrow.Author.Count.{below-more}
 use Rattle.std.specs.Iters.{counting, folded}
-use Rattle.std.specs.shelf.Lists.{All, kept-by}
+use Rattle.std.specs.Options.{valueOr}
+use Rattle.std.specs.shelf.Lists.{kept-by}
+use Rattle.std.specs.declared.option.Option.{Option}
+use Rattle.std.specs.declared.option.Option.the-variants.{Some, None}
 use Rattle.std.proofs.shelf.Counted.{map-counting-more}
-use Rattle.std.proofs.shelf.Elements.{all-append, all-weaker, kept-by-append}
-use Rattle.std.proofs.shelf.Lists.{map-id, length-take, getD-past, nil-from-length}
+use Rattle.std.proofs.shelf.Elements.{kept-by-append}
+use Rattle.std.proofs.shelf.Lists.{map-id, length-take, getD-past}
 use Rattle.std.proofs.shelf.Sums.{folded-push}
-use Rattle.std.proofs.shelf.Tests.{cases-bool, cases-eq, cases-lt, both-ways, ltb-true, ltb-false, eq-eqb, eqb-true, cond-both}
+use Rattle.std.proofs.shelf.Tests.{cases-bool, cases-lt, both-ways, ltb-true, ltb-false, eq-eqb, eqb-true, cond-both}
 use Rattle.tie.specs.declared.candidate.Candidate.{Candidate}
-use Rattle.tie.specs.Candidates.{thatCount, nobody, marked, stamp, markedPorts}
-use Rattle.tie.specs.Rules.{Lawful, smaller, smallest, picked, Chosen, OnlyMarked}
+use Rattle.tie.specs.Candidates.{thatCount, nobody, marked, stamp}
+use Rattle.tie.specs.Rules.{Lawful, smaller, smallest, picked, Chosen, distance, lowest, nearest, oldest, OnlyMarked}
 
 -- a test that cannot be passed fails
 pub refuted : (b : Bool) → (b ≡ true → ⊥) → b ≡ false
 refuted true h = absurd (h refl)
 refuted false h = refl
+
+-- what passes a test that every number below p fails is not below p
+pub not-below : (f : ℕ → Bool) (p : ℕ) → ((q : ℕ) → q < p → f q ≡ false) → (q : ℕ) → f q ≡ true → p ≤ q
+not-below f p fails q e = ⊎-elim (λ (l : q < p). absurd (both-ways (f q) (fails q l) e)) (λ (h : p ≤ q). h) (cases-lt q p)
 
 -- 256 candidates count at most
 pub few : (cs : List Candidate) → length (thatCount cs) ≤ 256
@@ -32,110 +40,94 @@ few cs = simp length-take (omega arith)
 pub counts : (cs : List Candidate) (p : ℕ) → marked cs p ≡ true → p < length (thatCount cs)
 counts cs p e = ⊎-elim (λ (h : p < length (thatCount cs)). h) (λ (h : length (thatCount cs) ≤ p). absurd (both-ways (marked cs p) (ap (λ (c : Candidate). c .marked) (getD-past (thatCount cs) p nobody h)) e)) (cases-lt p (length (thatCount cs)))
 
--- of the ports below i, best is the marked one with the smallest key, the lower among equals; 256 where none is marked
-pub record Sofar (m : ℕ → Bool) (key : ℕ → ℕ) (i best : ℕ) : Type 0 where
-  pub here : (best ≡ 256 → ⊥) → (best < i) × (m best ≡ true)
-  pub some : (q : ℕ) → q < i → m q ≡ true → best ≡ 256 → ⊥
-  pub least : (q : ℕ) → q < i → m q ≡ true → key best ≤ key q
-  pub first : (q : ℕ) → q < i → m q ≡ true → key q ≡ key best → best ≤ q
+-- of the ports below i, b is the marked one with the smallest key, the lower among equals
+pub record Best (m : ℕ → Bool) (key : ℕ → ℕ) (i b : ℕ) : Type 0 where
+  pub here : (b < i) × (m b ≡ true)
+  pub least : (q : ℕ) → q < i → m q ≡ true → key b ≤ key q
+  pub first : (q : ℕ) → q < i → m q ≡ true → key q ≡ key b → b ≤ q
+
+-- the best of the ports below i, if one of them is marked
+abbrev pub Sofar : (ℕ → Bool) → (ℕ → ℕ) → ℕ → Option ℕ → Type 0
+Sofar m key i None = (q : ℕ) → q < i → m q ≡ false
+Sofar m key i (Some b) = Best m key i b
 
 module _ (m : ℕ → Bool) (key : ℕ → ℕ) where
-  pub sofar-none : Sofar m key 0 256
-  sofar-none = record { here = λ h. absurd (h refl); some = λ q l e. absurd (omega arith); least = λ q l e. absurd (omega arith); first = λ q l e k. absurd (omega arith) }
-
   -- what is said of the ports below i + 1, from what is said of those below i and of i itself
   split : {P : Type 0} (i q : ℕ) → q < i + 1 → (q < i → P) → (q ≡ i → P) → P
   split i q l below here = ⊎-elim below (λ (h : i ≤ q). here (omega arith)) (cases-lt q i)
 
   -- port i is not marked
-  pub sofar-passes : (i best : ℕ) → Sofar m key i best → m i ≡ false → Sofar m key (i + 1) best
-  sofar-passes i best s e =
+  pub sofar-passes : (i : ℕ) (best : Option ℕ) → Sofar m key i best → m i ≡ false → Sofar m key (i + 1) best
+  sofar-passes i None s e = below-more _ _ s e
+  sofar-passes i (Some b) s e =
       let unmarked : (q : ℕ) → m q ≡ true → q ≡ i → ⊥ = λ q t h. both-ways (m i) e (subst (λ k. m k ≡ true) h t) in
       record {
-        here = λ h. let r = s .here h in (omega arith, r .1);
-        some = λ q l t. split i q l (λ below. s .some q below t) (λ h. absurd (unmarked q t h));
+        here = (omega (arith, s .here .0), s .here .1);
         least = λ q l t. split i q l (λ below. s .least q below t) (λ h. absurd (unmarked q t h));
         first = λ q l t k. split i q l (λ below. s .first q below t k) (λ h. absurd (unmarked q t h));
       }
 
-  -- there is a best so far, and the key of port i is not smaller
-  pub sofar-keeps : (i best : ℕ) → Sofar m key i best → (best ≡ 256 → ⊥) → key best ≤ key i → Sofar m key (i + 1) best
-  sofar-keeps i best s is k =
-      let r = s .here is in
-      record {
-        here = λ h. (omega arith, r .1);
-        some = λ q h e. is;
-        least = λ q h e. split i q h (λ below. s .least q below e) (λ here. subst (λ j. key best ≤ key j) (sym here) k);
-        first = λ q h e j. split i q h (λ below. s .first q below e j) (λ here. omega arith);
-      }
+  -- the key of port i is not smaller than that of the best
+  best-keeps : (i b : ℕ) → Best m key i b → key b ≤ key i → Best m key (i + 1) b
+  best-keeps i b s k = record {
+    here = (omega (arith, s .here .0), s .here .1);
+    least = λ q h e. split i q h (λ below. s .least q below e) (λ here. subst (λ j. key b ≤ key j) (sym here) k);
+    first = λ q h e j. split i q h (λ below. s .first q below e j) (λ here. omega (arith, s .here .0));
+  }
 
   -- port i is marked, and its key is smaller than that of every marked port below it
-  pub sofar-takes : (i : ℕ) → i < 256 → m i ≡ true → ((q : ℕ) → q < i → m q ≡ true → key i < key q) → Sofar m key (i + 1) i
-  sofar-takes i l e k = record {
-    here = λ h. (omega arith, e);
-    some = λ q h t. omega arith;
+  pub best-takes : (i : ℕ) → m i ≡ true → ((q : ℕ) → q < i → m q ≡ true → key i < key q) → Best m key (i + 1) i
+  best-takes i e k = record {
+    here = (omega arith, e);
     least = λ q h t. split i q h (λ below. omega (arith, k q below t)) (λ here. subst (λ j. key i ≤ key j) (sym here) (omega arith));
     first = λ q h t j. split i q h (λ below. absurd (omega (arith, k q below t))) (λ here. omega arith);
   }
+
+  -- port i is marked, and so it or the best is the best of both
+  pub best-more : (i b : ℕ) → Best m key i b → m i ≡ true → Best m key (i + 1) (smaller key b i)
+  best-more i b s e = cond-both (ltb (key i) (key b)) i b (Best m key (i + 1))
+      (λ t. best-takes i e (λ q h u. omega (arith, ltb-true (key i) (key b) t, s .least q h u)))
+      (λ f. best-keeps i b s (ltb-false (key i) (key b) f))
+
+  -- port i is the first that is marked
+  pub best-first : (i : ℕ) → Sofar m key i None → m i ≡ true → Best m key (i + 1) i
+  best-first i s e = best-takes i e (λ q h t. absurd (both-ways (m q) (s q h) t))
+
+  -- the first of these ports with the smallest key
+  found : List ℕ → Option ℕ
+  found [] = None
+  found (p ∷ ps) = Some (folded (smaller key) p ps)
+
+  smallest-found : (ps : List ℕ) → smallest key ps ≡ valueOr (found ps) 256
+  unfolding found
+  smallest-found [] = refl
+  smallest-found (p ∷ ps) = refl
+
+  found-push : (i : ℕ) → m i ≡ true → (ps : List ℕ) → Sofar m key i (found ps) → Sofar m key (i + 1) (found (ps ++ i ∷ []))
+  unfolding found
+  found-push i e [] s = best-first i s e
+  found-push i e (p ∷ ps) s = subst (Best m key (i + 1)) (sym (folded-push (smaller key) p ps i)) (best-more i (folded (smaller key) p ps) s e)
 
   -- the marked ports below i
   ports : ℕ → List ℕ
   ports i = kept-by m (counting 0 i)
 
-  ports-more : (i : ℕ) → ports (i + 1) ≡ ports i ++ cond (m i) (i ∷ []) []
+  ports-more : (i : ℕ) → ports (suc i) ≡ ports i ++ cond (m i) (i ∷ []) []
   unfolding ports
   ports-more i =
       let more : counting 0 (i + 1) ≡ counting 0 i ++ i ∷ [] = sym (map-id (counting 0 (i + 1))) ∙ map-counting-more (λ (k : ℕ). k) 0 i i (omega arith) ∙ ap (λ l. l ++ i ∷ []) (map-id (counting 0 i)) in
-      ap (kept-by m) more ∙ kept-by-append m (counting 0 i) (i ∷ [])
+      ap (λ n. kept-by m (counting 0 n)) (sym (add-one i)) ∙ ap (kept-by m) more ∙ kept-by-append m (counting 0 i) (i ∷ [])
 
-  Inside : ℕ → ℕ → Type 0
-  Inside i q = (q < i) × (m q ≡ true)
-
-  ports-inside : (i : ℕ) → All (Inside i) (ports i)
-  unfolding ports Inside
-  ports-inside zero = tt
-  ports-inside (suc i) =
-      let before : All (Inside (suc i)) (ports i) = all-weaker (Inside i) (Inside (suc i)) (λ q h. (omega arith, h .1)) (ports i) (ports-inside i) in
-      let more : ports (suc i) ≡ ports i ++ cond (m i) (i ∷ []) [] = ap ports (sym (add-one i)) ∙ ports-more i in
-      subst (All (Inside (suc i))) (sym more) (all-append (Inside (suc i)) (ports i) (cond (m i) (i ∷ []) []) before (cond-both (m i) (i ∷ []) [] (All (Inside (suc i))) (λ e. ((omega arith, e), tt)) (λ e. tt)))
-
-  -- what holds of each of some ports holds of the one with the smallest key
-  smallest-inside : (P : ℕ → Type 0) (p : ℕ) (ps : List ℕ) → P p → All P ps → P (folded (smaller key) p ps)
-  smallest-inside P p [] h a = h
-  smallest-inside P p (q ∷ ps) h a = smallest-inside P (smaller key p q) ps (cond-both (ltb (key q) (key p)) q p P (λ e. a .0) (λ e. h)) (a .1)
-
-  sofar-push : (i : ℕ) → i < 256 → m i ≡ true → (ps : List ℕ) → All (Inside i) ps → Sofar m key i (smallest key ps) → Sofar m key (i + 1) (smallest key (ps ++ i ∷ []))
-  unfolding Inside
-  sofar-push i l e [] a s = sofar-takes i l e (λ q h t. absurd (s .some q h t refl))
-  sofar-push i l e (p ∷ ps) a s =
-      let best : ℕ = folded (smaller key) p ps in
-      let inside : best < i = smallest-inside (Inside i) p ps (a .0) (a .1) .0 in
-      subst (Sofar m key (i + 1)) (sym (folded-push (smaller key) p ps i))
-      (cond-both (ltb (key i) (key best)) i best (Sofar m key (i + 1))
-      (λ t. sofar-takes i l e (λ q h u. omega (arith, ltb-true (key i) (key best) t, s .least q h u)))
-      (λ f. sofar-keeps i best s (omega arith) (ltb-false (key i) (key best) f)))
-
-  sofar-ports : (i : ℕ) → i ≤ 256 → Sofar m key i (smallest key (ports i))
-  unfolding ports
-  sofar-ports zero l = sofar-none
-  sofar-ports (suc i) l =
-      let before : Sofar m key i (smallest key (ports i)) = sofar-ports i (omega arith) in
-      let more : ports (suc i) ≡ ports i ++ cond (m i) (i ∷ []) [] = ap ports (sym (add-one i)) ∙ ports-more i in
-      subst (λ j. Sofar m key j (smallest key (ports (suc i)))) (add-one i) (subst (λ ps. Sofar m key (i + 1) (smallest key ps)) (sym more)
-      (cond-both (m i) (i ∷ []) [] (λ qs. Sofar m key (i + 1) (smallest key (ports i ++ qs)))
-      (λ e. sofar-push i (omega arith) e (ports i) (ports-inside i) before)
-      (λ e. subst (λ ps. Sofar m key (i + 1) (smallest key ps)) (sym (append-nil (ports i))) (sofar-passes i (smallest key (ports i)) before e))))
-
--- the best of all that count is the one that is chosen
-pub chosen-sofar : (key : ℕ → ℕ) (cs : List Candidate) (i p : ℕ) → length (thatCount cs) ≤ i → Sofar (marked cs) key i p → Chosen key cs p
-chosen-sofar key cs i p all s =
-    let below : (q : ℕ) → marked cs q ≡ true → q < i = λ q e. omega (arith, counts cs q e) in
-    record {
-      some = λ q e. s .here (s .some q (below q e) e) .1;
-      none = λ h. ⊎-elim (λ (e : p ≡ 256). e) (λ (is : p ≡ 256 → ⊥). absurd (both-ways (marked cs p) (h p) (s .here is .1))) (cases-eq p 256);
-      least = λ q e. s .least q (below q e) e;
-      first = λ q e k. s .first q (below q e) e k;
-    }
+  sofar-ports : (i : ℕ) → Sofar m key i (found (ports i))
+  unfolding ports found
+  sofar-ports zero = λ q l. absurd (omega arith)
+  sofar-ports (suc i) =
+      let before : Sofar m key i (found (ports i)) = sofar-ports i in
+      subst (λ j. Sofar m key j (found (ports (suc i)))) (add-one i)
+      (subst (λ ps. Sofar m key (i + 1) (found ps)) (sym (ports-more i))
+      (cond-both (m i) (i ∷ []) [] (λ qs. Sofar m key (i + 1) (found (ports i ++ qs)))
+      (λ e. found-push i e (ports i) before)
+      (λ e. subst (λ ps. Sofar m key (i + 1) (found ps)) (sym (append-nil (ports i))) (sofar-passes i (found (ports i)) before e))))
 
 -- where no port is marked, 256 is
 pub chosen-none : (key : ℕ → ℕ) (cs : List Candidate) → ((q : ℕ) → marked cs q ≡ true → ⊥) → Chosen key cs 256
@@ -149,30 +141,40 @@ chosen-none key cs never = record {
 -- the first marked port is the one with the smallest number
 pub chosen-lowest : (cs : List Candidate) (p : ℕ) → marked cs p ≡ true → ((q : ℕ) → q < p → marked cs q ≡ false) → Chosen (λ q. q) cs p
 chosen-lowest cs p e before =
-    let later : (q : ℕ) → marked cs q ≡ true → p ≤ q = λ q t. ⊎-elim
-        (λ (early : q < p). absurd (both-ways (marked cs q) (before q early) t))
-        (λ (h : p ≤ q). h)
-        (cases-lt q p) in
+    let later : (q : ℕ) → marked cs q ≡ true → p ≤ q = not-below (marked cs) p before in
     record { some = λ q t. e; none = λ h. absurd (both-ways (marked cs p) (h p) e); least = later; first = λ q t k. later q t }
 
+-- the best of all that count is the one that is chosen
+pub chosen-sofar : (key : ℕ → ℕ) (cs : List Candidate) (i : ℕ) (best : Option ℕ) → length (thatCount cs) ≤ i → Sofar (marked cs) key i best → Chosen key cs (valueOr best 256)
+chosen-sofar key cs i None all s = chosen-none key cs (λ q t. both-ways (marked cs q) (s q (omega (arith, counts cs q t))) t)
+chosen-sofar key cs i (Some b) all s = record {
+  some = λ q t. s .here .1;
+  none = λ h. absurd (both-ways (marked cs b) (h b) (s .here .1));
+  least = λ q t. s .least q (omega (arith, counts cs q t)) t;
+  first = λ q t k. s .first q (omega (arith, counts cs q t)) t k;
+}
+
 pub chosen-picked : (key : ℕ → ℕ) (cs : List Candidate) → Chosen key cs (picked key cs)
-unfolding picked
-chosen-picked key cs = chosen-sofar key cs (length (thatCount cs)) _ (omega arith) (unfold ports in sofar-ports (marked cs) key (length (thatCount cs)) (few cs))
+unfolding picked ports
+chosen-picked key cs =
+    let n : ℕ = length (thatCount cs) in
+    let m : ℕ → Bool = marked cs in
+    subst (Chosen key cs) (sym (smallest-found m key (ports m key n))) (chosen-sofar key cs n (found m key (ports m key n)) (omega arith) (sofar-ports m key n))
 
 -- at most one port is chosen
 pub chosen-unique : (key : ℕ → ℕ) (cs : List Candidate) (p q : ℕ) → Chosen key cs p → Chosen key cs q → p ≡ q
 chosen-unique key cs p q a b = ⊎-elim
     (λ (e : marked cs p ≡ true).
-      let f : marked cs q ≡ true = b .some p e in
-      let x = a .least q f in
-      let y = b .least p e in
-      let same : key q ≡ key p = omega arith in
-      let v = a .first q f same in
-      let w = b .first p e (sym same) in
-      let r : p ≡ q = omega arith in r)
+    let f : marked cs q ≡ true = b .some p e in
+    let x = a .least q f in
+    let y = b .least p e in
+    let same : key q ≡ key p = omega arith in
+    let v = a .first q f same in
+    let w = b .first p e (sym same) in
+    let r : p ≡ q = omega arith in r)
     (λ (e : marked cs p ≡ false).
-      let h : (r : ℕ) → marked cs r ≡ false = λ r. refuted (marked cs r) (λ t. both-ways (marked cs p) e (a .some r t)) in
-      a .none h ∙ sym (b .none h))
+    let h : (r : ℕ) → marked cs r ≡ false = λ r. refuted (marked cs r) (λ t. both-ways (marked cs p) e (a .some r t)) in
+    a .none h ∙ sym (b .none h))
     (cases-bool (marked cs p))
 
 -- so what is chosen is picked
@@ -185,6 +187,15 @@ picked-lawful key = record {
   some = λ s cs p e. chosen-picked (key s cs) cs .some p e;
   none = λ s cs h. chosen-picked (key s cs) cs .none h;
 }
+
+pub lowest-lawful : Lawful lowest
+lowest-lawful = picked-lawful (λ rule cs p. p)
+
+pub nearest-lawful : Lawful nearest
+nearest-lawful = picked-lawful (λ rule cs. distance (length (thatCount cs)) (rule .start))
+
+pub oldest-lawful : Lawful oldest
+oldest-lawful = picked-lawful (λ rule cs. stamp cs)
 
 -- a rule that keeps the law picks the only marked port
 pub lawful-only : {S : Type 0} (picks : S → List Candidate → ℕ) → Lawful picks → (s : S) (cs : List Candidate) (p : ℕ) → OnlyMarked cs p → picks s cs ≡ p

@@ -1,17 +1,16 @@
 -- Going round the ports from a start: the step at which a port comes is its distance, so the first marked port that comes is chosen. Assumes nothing.
 use mathlib.Core.Path.{_≡_, sym, ap, subst, _∙_}
-use mathlib.Core.Logic.{⊎-elim}
-use mathlib.Core.Bool.{Bool, true, false}
+use mathlib.Core.Bool.{true, false}
 use mathlib.Core.List.{List}
 use Prim.Native.Nat.{ℕ, _+_, _-_, _%_, _≤_, _<_}
 use native.Mathlib.Nat.{mod-lt, mod-eq-of-lt, mod-add-mod, add-mod-mod, add-mod-right}
 use native.Mathlib.Omega.{arith}
 use lib.ListN.{length}
-use Rattle.std.proofs.shelf.Tests.{both-ways, cases-lt}
+use Rattle.std.proofs.shelf.Tests.{both-ways}
 use Rattle.tie.specs.declared.candidate.Candidate.{Candidate}
 use Rattle.tie.specs.Candidates.{thatCount, marked}
 use Rattle.tie.specs.Rules.{picked, Chosen, distance, GoesRound}
-use Rattle.tie.proofs.Picking.{counts, chosen-none, picked-chosen}
+use Rattle.tie.proofs.Picking.{not-below, counts, chosen-none, picked-chosen}
 
 -- the port that comes at a step, going round n ports from s
 abbrev pub turn : ℕ → ℕ → ℕ → ℕ
@@ -41,23 +40,20 @@ module _ (n s : ℕ) where
 
 -- n candidates count
 module _ (cs : List Candidate) (n s : ℕ) (all : n ≡ length (thatCount cs)) where
-  -- a port that does not come marked before its distance is not marked
+  -- a marked port comes at its distance
   comes : (q : ℕ) → marked cs q ≡ true → marked cs (turn n s (distance n s q)) ≡ true
   comes q t = subst (λ k. marked cs k ≡ true) (sym (turn-distance n s q (omega (arith, counts cs q t)))) t
 
   -- the marked port that comes first is chosen
-  pub chosen-turn : (step : ℕ) → step < n → marked cs (turn n s step) ≡ true → ((d : ℕ) → d < step → marked cs (turn n s d) ≡ false) → Chosen (distance n s) cs (turn n s step)
-  chosen-turn step l e before =
-      let own : distance n s (turn n s step) ≡ step = distance-turn n s step l in
-      let later : (q : ℕ) → marked cs q ≡ true → step ≤ distance n s q = λ q t. ⊎-elim
-          (λ (early : distance n s q < step). absurd (both-ways (marked cs (turn n s (distance n s q))) (before (distance n s q) early) (comes q t)))
-          (λ (h : step ≤ distance n s q). h)
-          (cases-lt (distance n s q) step) in
+  pub chosen-turn : (step port : ℕ) → step < n → port ≡ turn n s step → marked cs port ≡ true → ((d : ℕ) → d < step → marked cs (turn n s d) ≡ false) → Chosen (distance n s) cs port
+  chosen-turn step port l at e before =
+      let own : distance n s port ≡ step = ap (distance n s) at ∙ distance-turn n s step l in
+      let later : (q : ℕ) → marked cs q ≡ true → step ≤ distance n s q = λ q t. not-below (λ d. marked cs (turn n s d)) step before (distance n s q) (comes q t) in
       record {
         some = λ q t. e;
-        none = λ h. absurd (both-ways (marked cs (turn n s step)) (h (turn n s step)) e);
+        none = λ h. absurd (both-ways (marked cs port) (h port) e);
         least = λ q t. omega (arith, own, later q t);
-        first = λ q t k. let same : turn n s step ≡ q = ap (turn n s) (sym own ∙ sym k) ∙ turn-distance n s q (omega (arith, counts cs q t)) in omega arith;
+        first = λ q t k. let same : port ≡ q = at ∙ ap (turn n s) (sym own ∙ sym k) ∙ turn-distance n s q (omega (arith, counts cs q t)) in omega arith;
       }
 
   -- where no port that comes is marked, none is

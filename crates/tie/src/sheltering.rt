@@ -1,4 +1,4 @@
-// sheltering.rt — a layer over any tie rule: a sheltered port loses only where no other can.
+// sheltering.rt — a layer over any tie rule: a sheltered port is picked only where every marked port is sheltered.
 ghost use mathlib.Core.Path.{_≡_};
 ghost use mathlib.Core.Bool.{false};
 ghost use lib.ListN.{replicate};
@@ -10,6 +10,7 @@ use crate::shelters::Shelters;
 use crate::tie_rule::TieRule;
 use refusal::Refusal;
 
+// A rule below, and a yes or no for each port. It is a rule again, with the letter of the rule below, so layers can be piled.
 #[derive(Drop)]
 pub struct Sheltering<R> {
     shelters: Shelters,

@@ -1,15 +1,15 @@
 // shelters.rt — a yes or no for each port, and what it makes of the candidates for the rule below.
 ghost use mathlib.Core.Path.{_≡_};
-ghost use mathlib.Core.Bool.{false};
+ghost use mathlib.Core.Bool.{false, not, _&&_};
 ghost use Prim.Native.Nat.{_<_, _≤_};
 ghost use lib.ListN.{length, replicate, set, take};
-ghost use Rattle.tie.specs.Sheltered.{exposes, handedDown};
+ghost use Rattle.tie.specs.Sheltered.{sheltered, exposes, handedDown};
 use crate::candidate::Candidate;
 use crate::candidate::MAX_PORTS;
 
 #[derive(Drop)]
-pub struct Shelters {
-    pub(crate) sheltered: [bool; 256],
+pub(crate) struct Shelters {
+    sheltered: [bool; 256],
 }
 
 impl Shelters {
@@ -39,7 +39,11 @@ impl Shelters {
         let exposes = self.exposes(candidates);
         let mut below = [Candidate::new(false, 0); MAX_PORTS];
         for (port, candidate) in candidates.iter().enumerate() {
-            below[port] = candidate.unmarked_if(exposes & self.sheltered[port]);
+            below[port] = if exposes && self.sheltered[port] {
+                candidate.unmarked()
+            } else {
+                *candidate
+            };
         }
         below
     }
@@ -50,10 +54,18 @@ impl Shelters {
         ensures { λ r. ⌜ r ≡ exposes (now (self .entry) .sheltered) (now (candidates .entry)) ⌝ }
     {
         for (port, candidate) in candidates.iter().enumerate() {
-            if candidate.is_marked() && !self.sheltered[port] {
+            if self.is_exposed(port, candidate) {
                 return true;
             }
         }
         false
+    }
+
+    // Whether the candidate is marked and its port not sheltered.
+    fn is_exposed(&self, port: usize, candidate: &Candidate) -> bool
+        requires { ⌜ port < 256 ⌝ }
+        ensures { λ r. ⌜ r ≡ (now (candidate .entry) .marked && not (sheltered (now (self .entry) .sheltered) port)) ⌝ }
+    {
+        candidate.is_marked() && !self.sheltered[port]
     }
 }

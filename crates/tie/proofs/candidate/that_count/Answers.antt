@@ -16,4 +16,4 @@ front xs n m e = ⊎-elim
     (cases-lt (length xs) m)
 
 pub returns : need.returns
-returns c = record { value = front (c .args .candidates .now) (c .min-n .result) 256 (c .min-n .ensures) }
+returns c = record { value = front (c .args .candidates .now) (c .how-many-count .result) 256 (c .how-many-count .ensures) }

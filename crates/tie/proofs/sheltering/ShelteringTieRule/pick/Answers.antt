@@ -1,7 +1,5 @@
-use mathlib.Core.Path.{_≡_, ap, _∙_}
-use Prim.Native.Nat.{_-_}
+use mathlib.Core.Path.{ap, _∙_}
 use native.Mathlib.Omega.{arith}
-use lib.ListN.{length, take}
 use Rattle.tie.proofs.Layers.{down-counted}
 use Rattle.tie.proofs.Picking.{read-few}
 use Rattle.tie.proofs.sheltering.ShelteringTieRule.pick.Needs as need
@@ -14,8 +12,5 @@ part-pick-end g c = omega (arith, read-few _ _ (c .that-count-candidates .ensure
 
 pub returns : need.returns
 returns g c =
-    let is = c .that-count-candidates .ensures .value in
-    let n = length (c .that-count-candidates .result .now) in
-    let part : n - 0 ≡ n = omega arith in
-    let below = ap (λ k. take k (c .hand-down-below .result)) part ∙ c .hand-down-below .ensures .value ∙ down-counted _ _ _ is in
-    record { value = c .pick .ensures .value ∙ ap (g .R·TieRule .picks (c .args .self .now .rule)) below }
+    let picks = g .R·TieRule .picks (c .args .self .now .rule) in
+    record { value = c .pick .ensures .value ∙ ap picks (down-counted _ _ _ _ (c .that-count-candidates .ensures .value) (c .hand-down-below .ensures .value)) }

@@ -2,7 +2,7 @@ use native.Mathlib.Omega.{arith}
 use borrow.Author.Count.{below-none, below-more}
 use Rattle.std.proofs.shelf.Tests.{both-ways}
 use Rattle.tie.proofs.Picking.{read-marked, read-counts, chosen-lowest, chosen-none, as-picked}
-use Rattle.tie.proofs.lowest_port.LowestPortTieRule.pick.Needs as need
+use Rattle.tie.proofs.lowest_port.lowest_marked.Needs as need
 
 pub loop-port-holds : need.loop-port-holds
 loop-port-holds c = below-none _
