@@ -1,6 +1,5 @@
 // tests.rt — the rule by itself and under a layer of sheltering.
 use crate::*;
-use refusal::Refusal;
 use std::test::*;
 use tie::Sheltering;
 use tie::ShelteringTieRule;
@@ -15,7 +14,7 @@ fn highest() -> Result<(), Fail> {
     ];
     check_eq(HighestPort.pick(&list), 3)?;
     let mut layer = Sheltering::new(HighestPort);
-    layer.shelter(3, true)?;
+    check(layer.shelter(3, true).is_ok())?;
     check_eq(layer.pick(&list), 2)?;
     for candidate in list.iter_mut() {
         *candidate = Candidate::new(false, 0);

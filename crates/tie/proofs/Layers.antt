@@ -14,12 +14,13 @@ use Rattle.std.proofs.shelf.Edits.{fill-by-more}
 use Rattle.std.proofs.shelf.Elements.{all-from-getD}
 use Rattle.std.proofs.shelf.Lists.{take-all, take-take, length-set, length-take-le, getD-take, getD-past, ext-getD}
 use Rattle.std.proofs.shelf.Sums.{sumBy-le, getD-le-sumBy}
-use Rattle.std.proofs.shelf.Tests.{cases-bool, cases-lt, both-ways, lt-ltb, le-ltb, and-parts, and-right}
+use Rattle.std.proofs.shelf.Tests.{cases-bool, cases-lt, both-ways, lt-ltb, le-ltb, and-parts, and-from, and-right, not-true, not-false}
 use Rattle.tie.specs.declared.candidate.Candidate.{Candidate}
-use Rattle.tie.specs.Candidates.{thatCount, nobody, marked, stamp}
+use Rattle.tie.specs.declared.sheltering.Sheltering.{Sheltering}
+use Rattle.tie.specs.Candidates.{thatCount, nobody, isMarked, stampOf}
 use Rattle.tie.specs.Rules.{Lawful}
-use Rattle.tie.specs.Sheltered.{sheltered, exposed, exposes, unmarked, handedDown, layered}
-use Rattle.tie.proofs.Picking.{refuted, few}
+use Rattle.tie.specs.Sheltered.{isSheltered, exposed, exposes, unmarked, handedDown, layered, Spares}
+use Rattle.tie.proofs.Picking.{refuted, few, counts}
 
 -- 1 where the port passes
 hit : (ℕ → Bool) → ℕ → ℕ
@@ -44,7 +45,7 @@ none-counted f n h =
     le-ltb 0 _ (omega (arith, sumBy-le (hit f) 0 (counting 0 n) (all-from-getD (λ k. hit f k ≤ 0) (counting 0 n) 0 each)))
 
 -- of the candidates that count all count
-marked-counted : (cs : List Candidate) (p : ℕ) → marked (thatCount cs) p ≡ marked cs p
+marked-counted : (cs : List Candidate) (p : ℕ) → isMarked (thatCount cs) p ≡ isMarked cs p
 marked-counted cs p = ap (λ (l : List Candidate). getD l p nobody .marked) (take-take 256 256 cs (omega arith))
 
 module _ (table : List Bool) (cs : List Candidate) where
@@ -52,10 +53,10 @@ module _ (table : List Bool) (cs : List Candidate) where
   length-unmarked = length-map-counting _ 0 (length (thatCount cs))
 
   exposed-past : (p : ℕ) → length (thatCount cs) ≤ p → exposed table cs p ≡ false
-  exposed-past p h = ap (λ (c : Candidate). c .marked && not (sheltered table p)) (getD-past (thatCount cs) p nobody h)
+  exposed-past p h = ap (λ (c : Candidate). c .marked && not (isSheltered table p)) (getD-past (thatCount cs) p nobody h)
 
   -- where the sheltered ports are unmarked, the exposed ones are marked
-  marked-unmarked : (p : ℕ) → marked (unmarked table cs) p ≡ exposed table cs p
+  marked-unmarked : (p : ℕ) → isMarked (unmarked table cs) p ≡ exposed table cs p
   marked-unmarked p =
       let whole : thatCount (unmarked table cs) ≡ unmarked table cs = take-all 256 (unmarked table cs) (omega (arith, length-unmarked, few cs)) in
       ap (λ (l : List Candidate). getD l p nobody .marked) whole ∙ ⊎-elim
@@ -77,11 +78,11 @@ spared-marked false c = ap (λ (m : Bool). record { marked = m; stamp = c .stamp
 
 -- the first i candidates have gone down to a table of 256; b says whether the sheltered ones are unmarked
 abbrev pub Down : List Bool → List Candidate → Bool → ℕ → List Candidate → Type 0
-Down table cs b i below = (length below ≡ 256) × ((q : ℕ) → q < i → getD below q nobody ≡ spared (b && sheltered table q) (getD (thatCount cs) q nobody))
+Down table cs b i below = (length below ≡ 256) × ((q : ℕ) → q < i → getD below q nobody ≡ spared (b && isSheltered table q) (getD (thatCount cs) q nobody))
 
 -- a list of the candidates as they go down
-gone-down : (table : List Bool) (cs : List Candidate) (b : Bool) (xs : List Candidate) → length xs ≡ length (thatCount cs) → ((q : ℕ) → q < length xs → getD xs q nobody ≡ spared (b && sheltered table q) (getD (thatCount cs) q nobody)) → xs ≡ cond b (unmarked table cs) (thatCount cs)
-gone-down table cs true xs long at = fill-by-all _ xs (length (thatCount cs)) nobody long (λ q l. at q (omega arith) ∙ spared-marked (sheltered table q) (getD (thatCount cs) q nobody))
+gone-down : (table : List Bool) (cs : List Candidate) (b : Bool) (xs : List Candidate) → length xs ≡ length (thatCount cs) → ((q : ℕ) → q < length xs → getD xs q nobody ≡ spared (b && isSheltered table q) (getD (thatCount cs) q nobody)) → xs ≡ cond b (unmarked table cs) (thatCount cs)
+gone-down table cs true xs long at = fill-by-all _ xs (length (thatCount cs)) nobody long (λ q l. at q (omega arith) ∙ spared-marked (isSheltered table q) (getD (thatCount cs) q nobody))
 gone-down table cs false xs long at = ext-getD nobody xs (thatCount cs) long at
 
 -- a list of at most 256 candidates, as the code goes through it
@@ -89,8 +90,8 @@ module _ (table : List Bool) (cs : List Candidate) (short : length cs ≤ 256) w
   whole : cs ≡ thatCount cs
   whole = sym (take-all 256 cs short)
 
-  pub read-exposed : (p : ℕ) (b : Bool) → b ≡ (getD cs p nobody .marked && not (sheltered table p)) → exposed table cs p ≡ b
-  read-exposed p b r = sym (r ∙ ap (λ (l : List Candidate). getD l p nobody .marked && not (sheltered table p)) whole)
+  pub read-exposed : (p : ℕ) (b : Bool) → b ≡ (getD cs p nobody .marked && not (isSheltered table p)) → exposed table cs p ≡ b
+  read-exposed p b r = sym (r ∙ ap (λ (l : List Candidate). getD l p nobody .marked && not (isSheltered table p)) whole)
 
   pub exposes-some : (p : ℕ) → p < length cs → exposed table cs p ≡ true → exposes table cs ≡ true
   exposes-some p l e = some-counted (exposed table cs) (length (thatCount cs)) p (omega (arith, ap length whole)) e
@@ -99,10 +100,10 @@ module _ (table : List Bool) (cs : List Candidate) (short : length cs ≤ 256) w
   exposes-none h = none-counted (exposed table cs) (length (thatCount cs)) (λ p l. h p (omega (arith, ap length whole)))
 
   -- one more candidate goes down
-  pub down-more : (b : Bool) (below : List Candidate) (p : ℕ) (c : Candidate) → p < length cs → c ≡ spared (b && sheltered table p) (getD cs p nobody) → Down table cs b p below → Down table cs b (p + 1) (set below p c)
+  pub down-more : (b : Bool) (below : List Candidate) (p : ℕ) (c : Candidate) → p < length cs → c ≡ spared (b && isSheltered table p) (getD cs p nobody) → Down table cs b p below → Down table cs b (p + 1) (set below p c)
   down-more b below p c l e h =
-      let f : ℕ → Candidate = λ q. spared (b && sheltered table q) (getD (thatCount cs) q nobody) in
-      let read : c ≡ f p = e ∙ ap (λ (l : List Candidate). spared (b && sheltered table p) (getD l p nobody)) whole in
+      let f : ℕ → Candidate = λ q. spared (b && isSheltered table q) (getD (thatCount cs) q nobody) in
+      let read : c ≡ f p = e ∙ ap (λ (l : List Candidate). spared (b && isSheltered table p) (getD l p nobody)) whole in
       subst (λ x. Down table cs b (p + 1) (set below p x)) (sym read) (length-set below p (f p) ∙ h .0, fill-by-more f below p nobody (omega (arith, h .0)) (h .1))
 
   -- all that count have gone down
@@ -118,23 +119,31 @@ pub down-counted : (table : List Bool) (cs counted below : List Candidate) → c
 unfolding handedDown
 down-counted table cs counted below is down =
     let part : length counted - 0 ≡ length counted = omega arith in
-    ap (λ n. take n below) part ∙ down ∙ ap (handedDown table) is ∙ simp (take-take 256 256 cs (omega arith), exposed, marked, stamp, thatCount)
+    ap (λ n. take n below) part ∙ down ∙ ap (handedDown table) is ∙ simp (take-take 256 256 cs (omega arith), exposed, isMarked, stampOf, thatCount)
 
 module _ {R : Type 0} (picks : R → List Candidate → ℕ) (law : Lawful picks) where
-  -- what the rule below picks from the candidates that are handed down
+  -- what the rule below picks from the candidates that go down; b says whether the sheltered ones are unmarked
   module _ (rule : R) (table : List Bool) (cs : List Candidate) where
-    below-some : (p : ℕ) → marked cs p ≡ true → (b : Bool) → exposes table cs ≡ b → marked cs (picks rule (cond b (unmarked table cs) (thatCount cs))) ≡ true
-    below-some p e true some = ⊎-elim
-        (λ (h : marked (unmarked table cs) (picks rule (unmarked table cs)) ≡ true). and-parts _ _ (sym (marked-unmarked table cs _) ∙ h) .0)
-        (λ (h : marked (unmarked table cs) (picks rule (unmarked table cs)) ≡ false).
+    -- where a port is exposed, an exposed port is picked
+    picks-exposed : exposes table cs ≡ true → exposed table cs (picks rule (unmarked table cs)) ≡ true
+    picks-exposed some = ⊎-elim
+        (λ (h : isMarked (unmarked table cs) (picks rule (unmarked table cs)) ≡ true). sym (marked-unmarked table cs _) ∙ h)
+        (λ (h : isMarked (unmarked table cs) (picks rule (unmarked table cs)) ≡ false).
         let hidden : (q : ℕ) → q < length (thatCount cs) → exposed table cs q ≡ false = λ q l. refuted _ (λ t. both-ways _ h (law .some rule (unmarked table cs) q (marked-unmarked table cs q ∙ t))) in
         absurd (both-ways (exposes table cs) (none-counted (exposed table cs) (length (thatCount cs)) hidden) some))
-        (cases-bool (marked (unmarked table cs) (picks rule (unmarked table cs))))
+        (cases-bool (isMarked (unmarked table cs) (picks rule (unmarked table cs))))
+
+    below-some : (p : ℕ) → isMarked cs p ≡ true → (b : Bool) → exposes table cs ≡ b → isMarked cs (picks rule (cond b (unmarked table cs) (thatCount cs))) ≡ true
+    below-some p e true some = and-parts _ _ (picks-exposed some) .0
     below-some p e false none = sym (marked-counted cs _) ∙ law .some rule (thatCount cs) p (marked-counted cs p ∙ e)
 
-    below-none : ((p : ℕ) → marked cs p ≡ false) → (b : Bool) → picks rule (cond b (unmarked table cs) (thatCount cs)) ≡ 256
-    below-none h true = law .none rule (unmarked table cs) (λ p. marked-unmarked table cs p ∙ ap (λ b. b && not (sheltered table p)) (h p))
+    below-none : ((p : ℕ) → isMarked cs p ≡ false) → (b : Bool) → picks rule (cond b (unmarked table cs) (thatCount cs)) ≡ 256
+    below-none h true = law .none rule (unmarked table cs) (λ p. marked-unmarked table cs p ∙ ap (λ b. b && not (isSheltered table p)) (h p))
     below-none h false = law .none rule (thatCount cs) (λ p. marked-counted cs p ∙ h p)
+
+    below-spares : (b : Bool) → exposes table cs ≡ b → Spares table cs (picks rule (cond b (unmarked table cs) (thatCount cs)))
+    below-spares true some h q t = absurd (both-ways _ (not-true _ (and-parts _ _ (picks-exposed some) .1)) h)
+    below-spares false none h q t = not-false _ (refuted _ (λ f. both-ways _ none (some-counted (exposed table cs) (length (thatCount cs)) q (counts cs q t) (and-from _ _ t f))))
 
   -- a layer over a lawful rule is lawful
   pub layered-lawful : Lawful (layered picks)
@@ -142,4 +151,12 @@ module _ {R : Type 0} (picks : R → List Candidate → ℕ) (law : Lawful picks
   layered-lawful = record {
     some = λ layer cs p e. below-some (layer .rule) (layer .shelters .sheltered) cs p e _ refl;
     none = λ layer cs h. below-none (layer .rule) (layer .shelters .sheltered) cs h _;
+  }
+
+  -- and its pick, as the contract of its code states it
+  pub as-layered : (layer : Sheltering R) (cs : List Candidate) (p : ℕ) → p ≡ layered picks layer cs → record { value : p ≡ layered picks layer cs; law : Spares (layer .shelters .sheltered) cs p }
+  unfolding handedDown
+  as-layered layer cs p e = record {
+    value = e;
+    law = subst (Spares (layer .shelters .sheltered) cs) (sym e) (below-spares (layer .rule) (layer .shelters .sheltered) cs _ refl);
   }

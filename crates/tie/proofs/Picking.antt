@@ -20,7 +20,7 @@ use Rattle.std.proofs.shelf.Lists.{map-id, length-take, getD-past}
 use Rattle.std.proofs.shelf.Sums.{folded-push}
 use Rattle.std.proofs.shelf.Tests.{cases-bool, cases-lt, both-ways, ltb-true, ltb-false, eq-eqb, eqb-true, cond-both}
 use Rattle.tie.specs.declared.candidate.Candidate.{Candidate}
-use Rattle.tie.specs.Candidates.{thatCount, nobody, marked, stamp}
+use Rattle.tie.specs.Candidates.{thatCount, nobody, isMarked, stampOf}
 use Rattle.tie.specs.Rules.{Lawful, smaller, smallest, picked, Chosen, distance, lowest, nearest, oldest, OnlyMarked}
 
 -- a test that cannot be passed fails
@@ -37,8 +37,8 @@ pub few : (cs : List Candidate) → length (thatCount cs) ≤ 256
 few cs = simp length-take (omega arith)
 
 -- a marked port counts
-pub counts : (cs : List Candidate) (p : ℕ) → marked cs p ≡ true → p < length (thatCount cs)
-counts cs p e = ⊎-elim (λ (h : p < length (thatCount cs)). h) (λ (h : length (thatCount cs) ≤ p). absurd (both-ways (marked cs p) (ap (λ (c : Candidate). c .marked) (getD-past (thatCount cs) p nobody h)) e)) (cases-lt p (length (thatCount cs)))
+pub counts : (cs : List Candidate) (p : ℕ) → isMarked cs p ≡ true → p < length (thatCount cs)
+counts cs p e = ⊎-elim (λ (h : p < length (thatCount cs)). h) (λ (h : length (thatCount cs) ≤ p). absurd (both-ways (isMarked cs p) (ap (λ (c : Candidate). c .marked) (getD-past (thatCount cs) p nobody h)) e)) (cases-lt p (length (thatCount cs)))
 
 -- of the ports below i, b is the marked one with the smallest key, the lower among equals
 pub record Best (m : ℕ → Bool) (key : ℕ → ℕ) (i b : ℕ) : Type 0 where
@@ -130,7 +130,7 @@ module _ (m : ℕ → Bool) (key : ℕ → ℕ) where
       (λ e. subst (λ ps. Sofar m key (i + 1) (found ps)) (sym (append-nil (ports i))) (sofar-passes i (found (ports i)) before e))))
 
 -- where no port is marked, 256 is
-pub chosen-none : (key : ℕ → ℕ) (cs : List Candidate) → ((q : ℕ) → marked cs q ≡ true → ⊥) → Chosen key cs 256
+pub chosen-none : (key : ℕ → ℕ) (cs : List Candidate) → ((q : ℕ) → isMarked cs q ≡ true → ⊥) → Chosen key cs 256
 chosen-none key cs never = record {
   some = λ q t. absurd (never q t);
   none = λ h. refl;
@@ -139,17 +139,17 @@ chosen-none key cs never = record {
 }
 
 -- the first marked port is the one with the smallest number
-pub chosen-lowest : (cs : List Candidate) (p : ℕ) → marked cs p ≡ true → ((q : ℕ) → q < p → marked cs q ≡ false) → Chosen (λ q. q) cs p
+pub chosen-lowest : (cs : List Candidate) (p : ℕ) → isMarked cs p ≡ true → ((q : ℕ) → q < p → isMarked cs q ≡ false) → Chosen (λ q. q) cs p
 chosen-lowest cs p e before =
-    let later : (q : ℕ) → marked cs q ≡ true → p ≤ q = not-below (marked cs) p before in
-    record { some = λ q t. e; none = λ h. absurd (both-ways (marked cs p) (h p) e); least = later; first = λ q t k. later q t }
+    let later : (q : ℕ) → isMarked cs q ≡ true → p ≤ q = not-below (isMarked cs) p before in
+    record { some = λ q t. e; none = λ h. absurd (both-ways (isMarked cs p) (h p) e); least = later; first = λ q t k. later q t }
 
 -- the best of all that count is the one that is chosen
-pub chosen-sofar : (key : ℕ → ℕ) (cs : List Candidate) (i : ℕ) (best : Option ℕ) → length (thatCount cs) ≤ i → Sofar (marked cs) key i best → Chosen key cs (valueOr best 256)
-chosen-sofar key cs i None all s = chosen-none key cs (λ q t. both-ways (marked cs q) (s q (omega (arith, counts cs q t))) t)
+pub chosen-sofar : (key : ℕ → ℕ) (cs : List Candidate) (i : ℕ) (best : Option ℕ) → length (thatCount cs) ≤ i → Sofar (isMarked cs) key i best → Chosen key cs (valueOr best 256)
+chosen-sofar key cs i None all s = chosen-none key cs (λ q t. both-ways (isMarked cs q) (s q (omega (arith, counts cs q t))) t)
 chosen-sofar key cs i (Some b) all s = record {
   some = λ q t. s .here .1;
-  none = λ h. absurd (both-ways (marked cs b) (h b) (s .here .1));
+  none = λ h. absurd (both-ways (isMarked cs b) (h b) (s .here .1));
   least = λ q t. s .least q (omega (arith, counts cs q t)) t;
   first = λ q t k. s .first q (omega (arith, counts cs q t)) t k;
 }
@@ -158,24 +158,24 @@ pub chosen-picked : (key : ℕ → ℕ) (cs : List Candidate) → Chosen key cs 
 unfolding picked ports
 chosen-picked key cs =
     let n : ℕ = length (thatCount cs) in
-    let m : ℕ → Bool = marked cs in
+    let m : ℕ → Bool = isMarked cs in
     subst (Chosen key cs) (sym (smallest-found m key (ports m key n))) (chosen-sofar key cs n (found m key (ports m key n)) (omega arith) (sofar-ports m key n))
 
 -- at most one port is chosen
 pub chosen-unique : (key : ℕ → ℕ) (cs : List Candidate) (p q : ℕ) → Chosen key cs p → Chosen key cs q → p ≡ q
 chosen-unique key cs p q a b = ⊎-elim
-    (λ (e : marked cs p ≡ true).
-    let f : marked cs q ≡ true = b .some p e in
+    (λ (e : isMarked cs p ≡ true).
+    let f : isMarked cs q ≡ true = b .some p e in
     let x = a .least q f in
     let y = b .least p e in
     let same : key q ≡ key p = omega arith in
     let v = a .first q f same in
     let w = b .first p e (sym same) in
     let r : p ≡ q = omega arith in r)
-    (λ (e : marked cs p ≡ false).
-    let h : (r : ℕ) → marked cs r ≡ false = λ r. refuted (marked cs r) (λ t. both-ways (marked cs p) e (a .some r t)) in
+    (λ (e : isMarked cs p ≡ false).
+    let h : (r : ℕ) → isMarked cs r ≡ false = λ r. refuted (isMarked cs r) (λ t. both-ways (isMarked cs p) e (a .some r t)) in
     a .none h ∙ sym (b .none h))
-    (cases-bool (marked cs p))
+    (cases-bool (isMarked cs p))
 
 -- so what is chosen is picked
 pub picked-chosen : (key : ℕ → ℕ) (cs : List Candidate) (p : ℕ) → Chosen key cs p → p ≡ picked key cs
@@ -195,26 +195,26 @@ pub nearest-lawful : Lawful nearest
 nearest-lawful = picked-lawful (λ rule cs. distance (length (thatCount cs)) (rule .start))
 
 pub oldest-lawful : Lawful oldest
-oldest-lawful = picked-lawful (λ rule cs. stamp cs)
+oldest-lawful = picked-lawful (λ rule cs. stampOf cs)
 
 -- a rule that keeps the law picks the only marked port
 pub lawful-only : {S : Type 0} (picks : S → List Candidate → ℕ) → Lawful picks → (s : S) (cs : List Candidate) (p : ℕ) → OnlyMarked cs p → picks s cs ≡ p
 lawful-only picks law s cs p only =
-    let here : marked cs p ≡ true = only p ∙ eq-eqb p p refl in
+    let here : isMarked cs p ≡ true = only p ∙ eq-eqb p p refl in
     eqb-true (picks s cs) p (sym (only (picks s cs)) ∙ law .some s cs p here)
 
 -- what the code reads in the slice of the candidates that count
 module _ (cs counted : List Candidate) (is : counted ≡ thatCount cs) where
-  pub read-marked : (p : ℕ) (b : Bool) → b ≡ getD counted p nobody .marked → marked cs p ≡ b
+  pub read-marked : (p : ℕ) (b : Bool) → b ≡ getD counted p nobody .marked → isMarked cs p ≡ b
   read-marked p b r = sym (r ∙ ap (λ (l : List Candidate). getD l p nobody .marked) is)
 
-  pub read-stamp : (p n : ℕ) → n ≡ getD counted p nobody .stamp → stamp cs p ≡ n
+  pub read-stamp : (p n : ℕ) → n ≡ getD counted p nobody .stamp → stampOf cs p ≡ n
   read-stamp p n r = sym (r ∙ ap (λ (l : List Candidate). getD l p nobody .stamp) is)
 
   pub read-few : length counted ≤ 256
   read-few = omega (arith, few cs, ap length is)
 
-  pub read-counts : (p : ℕ) → marked cs p ≡ true → p < length counted
+  pub read-counts : (p : ℕ) → isMarked cs p ≡ true → p < length counted
   read-counts p e = omega (arith, counts cs p e, ap length is)
 
 -- an answer that is chosen, as a contract states it

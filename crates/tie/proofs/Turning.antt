@@ -8,7 +8,7 @@ use native.Mathlib.Omega.{arith}
 use lib.ListN.{length}
 use Rattle.std.proofs.shelf.Tests.{both-ways}
 use Rattle.tie.specs.declared.candidate.Candidate.{Candidate}
-use Rattle.tie.specs.Candidates.{thatCount, marked}
+use Rattle.tie.specs.Candidates.{thatCount, isMarked}
 use Rattle.tie.specs.Rules.{picked, Chosen, distance, GoesRound}
 use Rattle.tie.proofs.Picking.{not-below, counts, chosen-none, picked-chosen}
 
@@ -41,25 +41,25 @@ module _ (n s : ℕ) where
 -- n candidates count
 module _ (cs : List Candidate) (n s : ℕ) (all : n ≡ length (thatCount cs)) where
   -- a marked port comes at its distance
-  comes : (q : ℕ) → marked cs q ≡ true → marked cs (turn n s (distance n s q)) ≡ true
-  comes q t = subst (λ k. marked cs k ≡ true) (sym (turn-distance n s q (omega (arith, counts cs q t)))) t
+  comes : (q : ℕ) → isMarked cs q ≡ true → isMarked cs (turn n s (distance n s q)) ≡ true
+  comes q t = subst (λ k. isMarked cs k ≡ true) (sym (turn-distance n s q (omega (arith, counts cs q t)))) t
 
   -- the marked port that comes first is chosen
-  pub chosen-turn : (step port : ℕ) → step < n → port ≡ turn n s step → marked cs port ≡ true → ((d : ℕ) → d < step → marked cs (turn n s d) ≡ false) → Chosen (distance n s) cs port
+  pub chosen-turn : (step port : ℕ) → step < n → port ≡ turn n s step → isMarked cs port ≡ true → ((d : ℕ) → d < step → isMarked cs (turn n s d) ≡ false) → Chosen (distance n s) cs port
   chosen-turn step port l at e before =
       let own : distance n s port ≡ step = ap (distance n s) at ∙ distance-turn n s step l in
-      let later : (q : ℕ) → marked cs q ≡ true → step ≤ distance n s q = λ q t. not-below (λ d. marked cs (turn n s d)) step before (distance n s q) (comes q t) in
+      let later : (q : ℕ) → isMarked cs q ≡ true → step ≤ distance n s q = λ q t. not-below (λ d. isMarked cs (turn n s d)) step before (distance n s q) (comes q t) in
       record {
         some = λ q t. e;
-        none = λ h. absurd (both-ways (marked cs port) (h port) e);
+        none = λ h. absurd (both-ways (isMarked cs port) (h port) e);
         least = λ q t. omega (arith, own, later q t);
         first = λ q t k. let same : port ≡ q = at ∙ ap (turn n s) (sym own ∙ sym k) ∙ turn-distance n s q (omega (arith, counts cs q t)) in omega arith;
       }
 
   -- where no port that comes is marked, none is
-  pub chosen-round : ((d : ℕ) → d < n → marked cs (turn n s d) ≡ false) → Chosen (distance n s) cs 256
+  pub chosen-round : ((d : ℕ) → d < n → isMarked cs (turn n s d) ≡ false) → Chosen (distance n s) cs 256
   chosen-round never = chosen-none (distance n s) cs (λ q t.
-      both-ways (marked cs (turn n s (distance n s q))) (never (distance n s q) (goes-round n s .below q (omega (arith, counts cs q t)))) (comes q t))
+      both-ways (isMarked cs (turn n s (distance n s q))) (never (distance n s q) (goes-round n s .below q (omega (arith, counts cs q t)))) (comes q t))
 
   -- an answer that is chosen, as a contract states it
   pub as-nearest : (p : ℕ) → Chosen (distance n s) cs p → let k = length (thatCount cs) in record { value : p ≡ picked (distance k s) cs; law : Chosen (distance k s) cs p; round : GoesRound k s }

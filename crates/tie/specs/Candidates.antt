@@ -1,9 +1,9 @@
 -- The candidates that a tie rule is given, one for each port, from port 0 on. Assumes nothing.
---     thatCount cs       the candidates that count
---     marked cs p        port p counts and is marked
---     stamp cs p         the stamp of port p
---     markedPorts cs     the marked ports, from the lowest up
 --     byPort n f         a list with an entry for each of n ports
+--     thatCount cs       the candidates that count
+--     isMarked cs p      port p counts and is marked
+--     stampOf cs p       the stamp of port p
+--     markedPorts cs     the marked ports, from the lowest up
 use mathlib.Core.Bool.{Bool, false}
 use mathlib.Core.List.{List, map}
 use Prim.Native.Nat.{ℕ}
@@ -25,13 +25,13 @@ abbrev pub nobody : Candidate
 nobody = record { marked = false; stamp = 0 }
 
 -- whether port p counts and is marked
-abbrev pub marked : List Candidate → ℕ → Bool
-marked cs p = getD (thatCount cs) p nobody .marked
+abbrev pub isMarked : List Candidate → ℕ → Bool
+isMarked cs p = getD (thatCount cs) p nobody .marked
 
 -- the stamp of port p
-abbrev pub stamp : List Candidate → ℕ → ℕ
-stamp cs p = getD (thatCount cs) p nobody .stamp
+abbrev pub stampOf : List Candidate → ℕ → ℕ
+stampOf cs p = getD (thatCount cs) p nobody .stamp
 
 -- the marked ports, from the lowest up
 abbrev pub markedPorts : List Candidate → List ℕ
-markedPorts cs = kept-by (marked cs) (counting 0 (length (thatCount cs)))
+markedPorts cs = kept-by (isMarked cs) (counting 0 (length (thatCount cs)))

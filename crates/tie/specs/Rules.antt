@@ -16,12 +16,12 @@ use Rattle.tie.specs.declared.candidate.Candidate.{Candidate}
 use Rattle.tie.specs.declared.lowest_port.LowestPort.{LowestPort}
 use Rattle.tie.specs.declared.oldest_head.OldestHead.{OldestHead}
 use Rattle.tie.specs.declared.rotating.Rotating.{Rotating}
-use Rattle.tie.specs.Candidates.{thatCount, marked, stamp, markedPorts}
+use Rattle.tie.specs.Candidates.{thatCount, isMarked, stampOf, markedPorts}
 
 -- in every state and for every list: a marked port is picked if a port is marked, and 256 otherwise
 pub record Lawful {S : Type 0} (picks : S → List Candidate → ℕ) : Type 0 where
-  pub some : (s : S) (cs : List Candidate) (p : ℕ) → marked cs p ≡ true → marked cs (picks s cs) ≡ true
-  pub none : (s : S) (cs : List Candidate) → ((p : ℕ) → marked cs p ≡ false) → picks s cs ≡ 256
+  pub some : (s : S) (cs : List Candidate) (p : ℕ) → isMarked cs p ≡ true → isMarked cs (picks s cs) ≡ true
+  pub none : (s : S) (cs : List Candidate) → ((p : ℕ) → isMarked cs p ≡ false) → picks s cs ≡ 256
 
 -- of two ports the one with the smaller key; p where the keys are equal
 abbrev pub smaller : (ℕ → ℕ) → ℕ → ℕ → ℕ
@@ -38,10 +38,10 @@ picked key cs = smallest key (markedPorts cs)
 
 -- p is that port: it is marked if any port is, its key is at most that of every marked port, and no marked port with the same key is lower
 pub record Chosen (key : ℕ → ℕ) (cs : List Candidate) (p : ℕ) : Type 0 where
-  pub some : (q : ℕ) → marked cs q ≡ true → marked cs p ≡ true
-  pub none : ((q : ℕ) → marked cs q ≡ false) → p ≡ 256
-  pub least : (q : ℕ) → marked cs q ≡ true → key p ≤ key q
-  pub first : (q : ℕ) → marked cs q ≡ true → key q ≡ key p → p ≤ q
+  pub some : (q : ℕ) → isMarked cs q ≡ true → isMarked cs p ≡ true
+  pub none : ((q : ℕ) → isMarked cs q ≡ false) → p ≡ 256
+  pub least : (q : ℕ) → isMarked cs q ≡ true → key p ≤ key q
+  pub first : (q : ℕ) → isMarked cs q ≡ true → key q ≡ key p → p ≤ q
 
 -- lowest port: the marked port with the smallest number
 abbrev pub lowest : LowestPort → List Candidate → ℕ
@@ -67,11 +67,11 @@ turned rule v = record { start = cond (leb v 255) (v + 1) (rule .start) }
 
 -- oldest head: the marked port with the smallest stamp
 abbrev pub oldest : OldestHead → List Candidate → ℕ
-oldest rule cs = picked (stamp cs) cs
+oldest rule cs = picked (stampOf cs) cs
 
 -- port p, and no other, is marked
 abbrev pub OnlyMarked : List Candidate → ℕ → Type 0
-OnlyMarked cs p = (q : ℕ) → marked cs q ≡ eqb q p
+OnlyMarked cs p = (q : ℕ) → isMarked cs q ≡ eqb q p
 
 -- where just one port is marked, each of the three plain rules picks it, in any state
 pub record AgreeOnOne : Type 0 where

@@ -3,7 +3,7 @@ ghost use mathlib.Core.Path.{_≡_};
 ghost use Prim.Native.Nat.{_<_};
 ghost use lib.ListN.{length, getD};
 ghost use Rattle.std.specs.Options.{valueOr};
-ghost use Rattle.tie.specs.Candidates.{nobody, stamp};
+ghost use Rattle.tie.specs.Candidates.{nobody, stampOf};
 ghost use Rattle.tie.specs.Rules.{smaller, picked, Chosen, oldest};
 use crate::candidate::Candidate;
 use crate::candidate::NO_PORT;
@@ -26,7 +26,7 @@ pub impl TieRule for OldestHead as OldestHeadTieRule {
 
     fn pick(&self, candidates: &[Candidate]) -> usize
         ensures value { λ r. ⌜ r ≡ oldest (now (self .entry)) (now (candidates .entry)) ⌝ }
-        ensures law { λ r. ⌜ Chosen (stamp (now (candidates .entry))) (now (candidates .entry)) r ⌝ }
+        ensures law { λ r. ⌜ Chosen (stampOf (now (candidates .entry))) (now (candidates .entry)) r ⌝ }
     {
         oldest_marked(candidates).unwrap_or(NO_PORT)
     }
@@ -40,8 +40,8 @@ pub impl TieRule for OldestHead as OldestHeadTieRule {
 
 // The first of the marked candidates that count with the smallest stamp.
 fn oldest_marked(candidates: &[Candidate]) -> Option<usize>
-    ensures value { λ r. ⌜ valueOr r 256 ≡ picked (stamp (now (candidates .entry))) (now (candidates .entry)) ⌝ }
-    ensures law { λ r. ⌜ Chosen (stamp (now (candidates .entry))) (now (candidates .entry)) (valueOr r 256) ⌝ }
+    ensures value { λ r. ⌜ valueOr r 256 ≡ picked (stampOf (now (candidates .entry))) (now (candidates .entry)) ⌝ }
+    ensures law { λ r. ⌜ Chosen (stampOf (now (candidates .entry))) (now (candidates .entry)) (valueOr r 256) ⌝ }
 {
     let candidates = that_count(candidates);
     let mut best: Option<usize> = None;

@@ -2,7 +2,7 @@
 ghost use mathlib.Core.Path.{_≡_};
 ghost use mathlib.Core.Bool.{false};
 ghost use lib.ListN.{replicate};
-ghost use Rattle.tie.specs.Sheltered.{layered, toldBelow, shelterAnswer, shelterAfter};
+ghost use Rattle.tie.specs.Sheltered.{layered, Spares, toldBelow, shelterAnswer, shelterAfter};
 use crate::candidate::Candidate;
 use crate::candidate::MAX_PORTS;
 use crate::candidate::that_count;
@@ -50,7 +50,10 @@ pub impl<R: TieRule> TieRule for Sheltering<R> as ShelteringTieRule {
 
     ghost letter = { R·TieRule .letter };
 
-    fn pick(&self, candidates: &[Candidate]) -> usize {
+    fn pick(&self, candidates: &[Candidate]) -> usize
+        ensures value { λ r. ⌜ r ≡ layered (R·TieRule .picks) (now (self .entry)) (now (candidates .entry)) ⌝ }
+        ensures law { λ r. ⌜ Spares (now (self .entry) .shelters .sheltered) (now (candidates .entry)) r ⌝ }
+    {
         let candidates = that_count(candidates);
         let below = self.shelters.hand_down(candidates);
         self.rule.pick(&below[0..candidates.len()])

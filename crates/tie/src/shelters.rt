@@ -3,7 +3,7 @@ ghost use mathlib.Core.Path.{_≡_};
 ghost use mathlib.Core.Bool.{false, not, _&&_};
 ghost use Prim.Native.Nat.{_<_, _≤_};
 ghost use lib.ListN.{length, replicate, set, take};
-ghost use Rattle.tie.specs.Sheltered.{sheltered, exposes, handedDown};
+ghost use Rattle.tie.specs.Sheltered.{isSheltered, exposes, handedDown};
 use crate::candidate::Candidate;
 use crate::candidate::MAX_PORTS;
 
@@ -64,7 +64,7 @@ impl Shelters {
     // Whether the candidate is marked and its port not sheltered.
     fn is_exposed(&self, port: usize, candidate: &Candidate) -> bool
         requires { ⌜ port < 256 ⌝ }
-        ensures { λ r. ⌜ r ≡ (now (candidate .entry) .marked && not (sheltered (now (self .entry) .sheltered) port)) ⌝ }
+        ensures { λ r. ⌜ r ≡ (now (candidate .entry) .marked && not (isSheltered (now (self .entry) .sheltered) port)) ⌝ }
     {
         candidate.is_marked() && !self.sheltered[port]
     }

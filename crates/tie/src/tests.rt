@@ -128,6 +128,41 @@ fn shelters() -> Result<(), Fail> {
     check_eq(picked(&layer, 256, Marks::All), 0)
 }
 
+// Those of docs/TIE-RULES.md.
+#[test]
+fn examples_of_the_page() -> Result<(), Fail> {
+    let list = [
+        Candidate::new(false, 7),
+        Candidate::new(true, 5),
+        Candidate::new(true, 3),
+        Candidate::new(true, 3),
+    ];
+    check_eq(LowestPort.pick(&list), 1)?;
+    let mut rotating = Rotating::new();
+    check_eq(rotating.pick(&list), 1)?;
+    rotating.told(1);
+    check_eq(rotating.pick(&list), 2)?;
+    rotating.told(3);
+    check_eq(rotating.pick(&list), 1)?;
+    rotating.told(255);
+    check_eq(rotating.pick(&list), 1)?;
+    check_eq(OldestHead.pick(&list), 2)?;
+    let mut lower = Sheltering::new(LowestPort);
+    lower.shelter(1, true)?;
+    check_eq(lower.pick(&list), 2)?;
+    let mut upper = Sheltering::new(lower);
+    upper.shelter(2, true)?;
+    check_eq(upper.pick(&list), 3)?;
+    let mut layer = Sheltering::new(LowestPort);
+    layer.shelter(1, true)?;
+    layer.shelter(2, true)?;
+    layer.shelter(3, true)?;
+    check_eq(layer.pick(&list), 1)?;
+    let unmarked = [Candidate::new(false, 7); 4];
+    check_eq(OldestHead.pick(&unmarked), 256)?;
+    check_eq(layer.pick(&unmarked), 256)
+}
+
 // The letter, as the constant has it and as the function answers it.
 fn letters<R: TieRule>(_rule: &R) -> (u8, u8) {
     (R::LETTER, R::report_letter())

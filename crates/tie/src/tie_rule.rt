@@ -33,7 +33,7 @@ pub trait TieRule {
     fn told(&mut self, port: usize)
         ensures after { λ _. ⌜ now (self .exit) ≡ after (now (self .entry)) port ⌝ };
 
-    // Answers `LETTER`: a contract can speak of what a function answers, and not of a constant.
+    // Answers `LETTER`. A generic contract can say what a function answers, and not what a constant is.
     fn report_letter() -> u8
         ensures value { λ r. ⌜ r ≡ letter ⌝ };
 }

@@ -16,8 +16,8 @@ loop-port-again c =
     let low : c .loop-port .port < 256 = omega (arith, read-few _ _ is) in
     let Next : Option ℕ → Type 0 = Sofar (isMarked (c .args .candidates .now)) fromTheTop (c .loop-port .port + 1) in
     elim (c .if-is-marked .came) [
-      then-is-marked w ↦ subst Next (sym (w .best-is)) (best-takes _ _ _ (read-marked _ _ is _ _ (w .if-is-marked .ensures tt .value)) (λ q l t. omega arith))
-    | else-is-marked w ↦ subst Next (sym (w .best-is)) (sofar-passes _ _ _ (c .loop-port .best) (c .loop-port .inv) (read-marked _ _ is _ _ (w .if-is-marked .ensures tt .value)))
+      | then-is-marked w ↦ subst Next (sym (w .best-is)) (best-takes _ _ _ (read-marked _ _ is _ _ (w .if-is-marked .ensures tt .value)) (λ q l t. omega arith))
+      | else-is-marked w ↦ subst Next (sym (w .best-is)) (sofar-passes _ _ _ (c .loop-port .best) (c .loop-port .inv) (read-marked _ _ is _ _ (w .if-is-marked .ensures tt .value)))
     ]
 
 pub returns : need.returns

@@ -9,8 +9,8 @@ loop-port-holds c = below-none _
 
 pub returns-then-is-marked : need.returns-then-is-marked
 returns-then-is-marked c =
-    let marked = read-marked _ _ (c .that-count-candidate-items .ensures .value) _ _ (c .if-is-marked .ensures tt .value) in
-    as-picked _ _ _ (chosen-lowest _ _ marked (c .loop-port .inv))
+    let here = read-marked _ _ (c .that-count-candidate-items .ensures .value) _ _ (c .if-is-marked .ensures tt .value) in
+    as-picked _ _ _ (chosen-lowest _ _ here (c .loop-port .inv))
 
 pub loop-port-again : need.loop-port-again
 loop-port-again c = below-more _ _ (c .loop-port .inv) (read-marked _ _ (c .that-count-candidate-items .ensures .value) _ _ (c .if-is-marked .ensures tt .value))

@@ -6,7 +6,7 @@ use lib.ListN.{length, getD}
 use Rattle.std.specs.declared.option.Option.{Option}
 use Rattle.std.specs.declared.option.Option.the-variants.{Some}
 use Rattle.tie.specs.declared.candidate.Candidate.{Candidate}
-use Rattle.tie.specs.Candidates.{nobody, marked, stamp}
+use Rattle.tie.specs.Candidates.{nobody, isMarked, stampOf}
 use Rattle.tie.specs.Rules.{smaller}
 use Rattle.tie.proofs.Picking.{Best, Sofar, sofar-passes, best-more, best-first, chosen-sofar, as-picked, read-marked}
 use Rattle.tie.proofs.oldest_head.oldest_marked.Needs as need
@@ -19,7 +19,7 @@ loop-port-again-then-not-is-marked c =
 pub older-requires : need.older-requires
 older-requires c κs =
     let cs = c .args .candidates .now in
-    let best : Best (marked cs) (stamp cs) (c .loop-port .port) (c .in-Some .so-far) = subst (Sofar (marked cs) (stamp cs) (c .loop-port .port)) (c .in-Some .is) (c .loop-port .inv) in
+    let best : Best (isMarked cs) (stampOf cs) (c .loop-port .port) (c .in-Some .so-far) = subst (Sofar (isMarked cs) (stampOf cs) (c .loop-port .port)) (c .in-Some .is) (c .loop-port .inv) in
     (omega (arith, best .here .0), c .loop-port-test .taken)
 
 pub loop-port-again : need.loop-port-again
@@ -28,8 +28,8 @@ loop-port-again c =
     let is = c .that-count-candidates .ensures .value in
     let port = c .loop-port .port in
     let here = read-marked _ _ is _ _ (c .if-not-is-marked .ensures tt .value) in
-    let Now : Option ℕ → Type 0 = Sofar (marked cs) (stamp cs) port in
-    let Next : Option ℕ → Type 0 = Sofar (marked cs) (stamp cs) (port + 1) in
+    let Now : Option ℕ → Type 0 = Sofar (isMarked cs) (stampOf cs) port in
+    let Next : Option ℕ → Type 0 = Sofar (isMarked cs) (stampOf cs) (port + 1) in
     elim (c .match-best .came) [
       | in-Some w ↦
           let b = w .in-Some .so-far in

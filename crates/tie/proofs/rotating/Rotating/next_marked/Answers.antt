@@ -4,7 +4,7 @@ use Prim.Native.Nat.{_<_, _≤_}
 use native.Mathlib.Omega.{arith}
 use lib.ListN.{length}
 use borrow.Author.Count.{below-none, below-more}
-use Rattle.tie.specs.Candidates.{marked}
+use Rattle.tie.specs.Candidates.{isMarked}
 use Rattle.tie.proofs.Picking.{read-marked, read-few}
 use Rattle.tie.proofs.Turning.{chosen-turn, chosen-round, as-nearest}
 use Rattle.tie.proofs.rotating.Rotating.next_marked.Needs as need
@@ -24,7 +24,7 @@ returns-then-is-marked c =
 pub loop-step-again : need.loop-step-again
 loop-step-again c =
     let here = read-marked _ _ (c .that-count-candidates .ensures .value) _ _ (c .if-is-marked .ensures tt .value) in
-    below-more _ _ (c .loop-step .inv) (subst (λ p. marked (c .args .candidates .now) p ≡ false) (c .port-at-port .ensures .value) here)
+    below-more _ _ (c .loop-step .inv) (subst (λ p. isMarked (c .args .candidates .now) p ≡ false) (c .port-at-port .ensures .value) here)
 
 pub returns : need.returns
 returns c =

@@ -1,6 +1,6 @@
 use mathlib.Core.Path.{ap, _∙_}
 use native.Mathlib.Omega.{arith}
-use Rattle.tie.proofs.Layers.{down-counted}
+use Rattle.tie.proofs.Layers.{down-counted, as-layered}
 use Rattle.tie.proofs.Picking.{read-few}
 use Rattle.tie.proofs.sheltering.ShelteringTieRule.pick.Needs as need
 
@@ -12,5 +12,6 @@ part-pick-end g c = omega (arith, read-few _ _ (c .that-count-candidates .ensure
 
 pub returns : need.returns
 returns g c =
-    let picks = g .R·TieRule .picks (c .args .self .now .rule) in
-    record { value = c .pick .ensures .value ∙ ap picks (down-counted _ _ _ _ (c .that-count-candidates .ensures .value) (c .hand-down-below .ensures .value)) }
+    let picks = g .R·TieRule .picks in
+    let below = down-counted _ _ _ _ (c .that-count-candidates .ensures .value) (c .hand-down-below .ensures .value) in
+    as-layered picks (g .R·TieRule·met .lawful) (c .args .self .now) (c .args .candidates .now) _ (c .pick .ensures .value ∙ ap (picks (c .args .self .now .rule)) below)
