@@ -10,7 +10,8 @@ use crate::shelters::Shelters;
 use crate::tie_rule::TieRule;
 use refusal::Refusal;
 
-// A rule below, and a yes or no for each port. It is a rule again, with the letter of the rule below, so layers can be piled.
+// A yes or no for each port, over a rule below. It is a rule again, with the letter of the rule below, so that layers can
+// be piled.
 #[derive(Drop)]
 pub struct Sheltering<R> {
     shelters: Shelters,
@@ -18,7 +19,7 @@ pub struct Sheltering<R> {
 }
 
 impl<R> Sheltering<R> {
-    // A layer over the rule that shelters no port yet.
+    // A layer over this rule; no port is sheltered yet.
     pub fn new(rule: R) -> Self
         ensures value { λ r. ⌜ r ≡ record { shelters = record { sheltered = replicate 256 false }; rule = rule } ⌝ }
     {

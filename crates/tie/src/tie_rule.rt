@@ -23,6 +23,7 @@ pub trait TieRule {
     // The letter again, where a clause can name it.
     ghost letter: { ℕ };
 
+    // A marked port if one is marked, and 256 otherwise: in every state, from every list.
     law lawful: { Lawful picks };
 
     // Picks the port that loses its tail cell; 256 where none is marked.
