@@ -1,8 +1,7 @@
 // example_rule — a tie rule written outside the crate `tie`, as docs/TIE-RULES.md shows: the highest marked port loses.
 ghost use mathlib.Core.Path.{_≡_};
-ghost use Rattle.std.specs.Options.{valueOr};
 ghost use Rattle.example_rule.specs.Highest.{highest, fromTheTop};
-ghost use Rattle.tie.specs.Rules.{picked};
+ghost use Rattle.tie.specs.Rules.{leastMarked};
 use tie::Candidate;
 use tie::NO_PORT;
 use tie::TieRule;
@@ -37,7 +36,7 @@ pub impl TieRule for HighestPort as HighestPortTieRule {
 
 // The highest of the marked candidates that count.
 fn highest_marked(candidates: &[Candidate]) -> Option<usize>
-    ensures { λ r. ⌜ valueOr r 256 ≡ picked fromTheTop (now (candidates .entry)) ⌝ }
+    ensures { λ r. ⌜ r ≡ leastMarked fromTheTop (now (candidates .entry)) ⌝ }
 {
     let mut best: Option<usize> = None;
     for (port, candidate) in that_count(candidates).iter().enumerate() {

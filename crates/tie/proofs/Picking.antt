@@ -1,4 +1,4 @@
--- The marked port with the smallest key: that `picked` is it, that there is one, and that a loop which keeps the best so far finds it. Assumes nothing.
+-- The marked port with the smallest key: that `leastMarked` is it, that there is just one, and that a loop which keeps the best so far finds it. Assumes nothing.
 use mathlib.Core.Path.{_≡_, refl, sym, ap, subst, _∙_}
 use mathlib.Core.Logic.{⊎-elim}
 use mathlib.Core.Bool.{Bool, true, false, cond}
@@ -21,7 +21,7 @@ use Rattle.std.proofs.shelf.Sums.{folded-push}
 use Rattle.std.proofs.shelf.Tests.{cases-bool, cases-lt, both-ways, ltb-true, ltb-false, eq-eqb, eqb-true, cond-both}
 use Rattle.tie.specs.declared.candidate.Candidate.{Candidate}
 use Rattle.tie.specs.Candidates.{thatCount, nobody, isMarked, stampOf}
-use Rattle.tie.specs.Rules.{Lawful, smaller, smallest, picked, Chosen, distance, lowest, nearest, oldest, OnlyMarked}
+use Rattle.tie.specs.Rules.{Lawful, smaller, smallest, leastMarked, picked, Chosen, distance, lowest, nearest, oldest, OnlyMarked}
 
 -- a test that cannot be passed fails
 pub refuted : (b : Bool) → (b ≡ true → ⊥) → b ≡ false
@@ -93,20 +93,9 @@ module _ (m : ℕ → Bool) (key : ℕ → ℕ) where
   pub best-first : (i : ℕ) → Sofar m key i None → m i ≡ true → Best m key (i + 1) i
   best-first i s e = best-takes i e (λ q h t. absurd (both-ways (m q) (s q h) t))
 
-  -- the first of these ports with the smallest key
-  found : List ℕ → Option ℕ
-  found [] = None
-  found (p ∷ ps) = Some (folded (smaller key) p ps)
-
-  smallest-found : (ps : List ℕ) → smallest key ps ≡ valueOr (found ps) 256
-  unfolding found
-  smallest-found [] = refl
-  smallest-found (p ∷ ps) = refl
-
-  found-push : (i : ℕ) → m i ≡ true → (ps : List ℕ) → Sofar m key i (found ps) → Sofar m key (i + 1) (found (ps ++ i ∷ []))
-  unfolding found
-  found-push i e [] s = best-first i s e
-  found-push i e (p ∷ ps) s = subst (Best m key (i + 1)) (sym (folded-push (smaller key) p ps i)) (best-more i (folded (smaller key) p ps) s e)
+  smallest-push : (i : ℕ) → m i ≡ true → (ps : List ℕ) → Sofar m key i (smallest key ps) → Sofar m key (i + 1) (smallest key (ps ++ i ∷ []))
+  smallest-push i e [] s = best-first i s e
+  smallest-push i e (p ∷ ps) s = subst (Best m key (i + 1)) (sym (folded-push (smaller key) p ps i)) (best-more i (folded (smaller key) p ps) s e)
 
   -- the marked ports below i
   ports : ℕ → List ℕ
@@ -118,19 +107,19 @@ module _ (m : ℕ → Bool) (key : ℕ → ℕ) where
       let more : counting 0 (i + 1) ≡ counting 0 i ++ i ∷ [] = sym (map-id (counting 0 (i + 1))) ∙ map-counting-more (λ (k : ℕ). k) 0 i i (omega arith) ∙ ap (λ l. l ++ i ∷ []) (map-id (counting 0 i)) in
       ap (λ n. kept-by m (counting 0 n)) (sym (add-one i)) ∙ ap (kept-by m) more ∙ kept-by-append m (counting 0 i) (i ∷ [])
 
-  sofar-ports : (i : ℕ) → Sofar m key i (found (ports i))
-  unfolding ports found
+  sofar-ports : (i : ℕ) → Sofar m key i (smallest key (ports i))
+  unfolding ports
   sofar-ports zero = λ q l. absurd (omega arith)
   sofar-ports (suc i) =
-      let before : Sofar m key i (found (ports i)) = sofar-ports i in
-      subst (λ j. Sofar m key j (found (ports (suc i)))) (add-one i)
-      (subst (λ ps. Sofar m key (i + 1) (found ps)) (sym (ports-more i))
-      (cond-both (m i) (i ∷ []) [] (λ qs. Sofar m key (i + 1) (found (ports i ++ qs)))
-      (λ e. found-push i e (ports i) before)
-      (λ e. subst (λ ps. Sofar m key (i + 1) (found ps)) (sym (append-nil (ports i))) (sofar-passes i (found (ports i)) before e))))
+      let before : Sofar m key i (smallest key (ports i)) = sofar-ports i in
+      subst (λ j. Sofar m key j (smallest key (ports (suc i)))) (add-one i)
+      (subst (λ ps. Sofar m key (i + 1) (smallest key ps)) (sym (ports-more i))
+      (cond-both (m i) (i ∷ []) [] (λ qs. Sofar m key (i + 1) (smallest key (ports i ++ qs)))
+      (λ e. smallest-push i e (ports i) before)
+      (λ e. subst (λ ps. Sofar m key (i + 1) (smallest key ps)) (sym (append-nil (ports i))) (sofar-passes i (smallest key (ports i)) before e))))
 
 -- where no port is marked, 256 is
-pub chosen-none : (key : ℕ → ℕ) (cs : List Candidate) → ((q : ℕ) → isMarked cs q ≡ true → ⊥) → Chosen key cs 256
+chosen-none : (key : ℕ → ℕ) (cs : List Candidate) → ((q : ℕ) → isMarked cs q ≡ true → ⊥) → Chosen key cs 256
 chosen-none key cs never = record {
   some = λ q t. absurd (never q t);
   none = λ h. refl;
@@ -145,7 +134,7 @@ chosen-lowest cs p e before =
     record { some = λ q t. e; none = λ h. absurd (both-ways (isMarked cs p) (h p) e); least = later; first = λ q t k. later q t }
 
 -- the best of all that count is the one that is chosen
-pub chosen-sofar : (key : ℕ → ℕ) (cs : List Candidate) (i : ℕ) (best : Option ℕ) → length (thatCount cs) ≤ i → Sofar (isMarked cs) key i best → Chosen key cs (valueOr best 256)
+chosen-sofar : (key : ℕ → ℕ) (cs : List Candidate) (i : ℕ) (best : Option ℕ) → length (thatCount cs) ≤ i → Sofar (isMarked cs) key i best → Chosen key cs (valueOr best 256)
 chosen-sofar key cs i None all s = chosen-none key cs (λ q t. both-ways (isMarked cs q) (s q (omega (arith, counts cs q t))) t)
 chosen-sofar key cs i (Some b) all s = record {
   some = λ q t. s .here .1;
@@ -154,15 +143,15 @@ chosen-sofar key cs i (Some b) all s = record {
   first = λ q t k. s .first q (omega (arith, counts cs q t)) t k;
 }
 
-pub chosen-picked : (key : ℕ → ℕ) (cs : List Candidate) → Chosen key cs (picked key cs)
-unfolding picked ports
-chosen-picked key cs =
-    let n : ℕ = length (thatCount cs) in
-    let m : ℕ → Bool = isMarked cs in
-    subst (Chosen key cs) (sym (smallest-found m key (ports m key n))) (chosen-sofar key cs n (found m key (ports m key n)) (omega arith) (sofar-ports m key n))
+sofar-least : (key : ℕ → ℕ) (cs : List Candidate) → Sofar (isMarked cs) key (length (thatCount cs)) (leastMarked key cs)
+unfolding leastMarked ports
+sofar-least key cs = sofar-ports (isMarked cs) key (length (thatCount cs))
+
+chosen-picked : (key : ℕ → ℕ) (cs : List Candidate) → Chosen key cs (picked key cs)
+chosen-picked key cs = chosen-sofar key cs (length (thatCount cs)) (leastMarked key cs) (omega arith) (sofar-least key cs)
 
 -- at most one port is chosen
-pub chosen-unique : (key : ℕ → ℕ) (cs : List Candidate) (p q : ℕ) → Chosen key cs p → Chosen key cs q → p ≡ q
+chosen-unique : (key : ℕ → ℕ) (cs : List Candidate) (p q : ℕ) → Chosen key cs p → Chosen key cs q → p ≡ q
 chosen-unique key cs p q a b = ⊎-elim
     (λ (e : isMarked cs p ≡ true).
     let f : isMarked cs q ≡ true = b .some p e in
@@ -177,9 +166,30 @@ chosen-unique key cs p q a b = ⊎-elim
     a .none h ∙ sym (b .none h))
     (cases-bool (isMarked cs p))
 
--- so what is chosen is picked
-pub picked-chosen : (key : ℕ → ℕ) (cs : List Candidate) (p : ℕ) → Chosen key cs p → p ≡ picked key cs
-picked-chosen key cs p h = chosen-unique key cs p (picked key cs) h (chosen-picked key cs)
+-- the answer r to a search for the marked port with the smallest key, as contracts state it
+abbrev pub Finds : (ℕ → ℕ) → List Candidate → Option ℕ → Type 0
+Finds key cs r = record { value : r ≡ leastMarked key cs; law : Chosen key cs (valueOr r 256) }
+
+-- no port is marked
+pub finds-none : (key : ℕ → ℕ) (cs : List Candidate) → ((q : ℕ) → isMarked cs q ≡ true → ⊥) → Finds key cs None
+finds-none key cs never = record { value = same (leastMarked key cs) (sofar-least key cs); law = chosen-none key cs never }
+  where
+    same : (o : Option ℕ) → Sofar (isMarked cs) key (length (thatCount cs)) o → None ≡ o
+    same None s = refl
+    same (Some b) s = absurd (never b (s .here .1))
+
+-- a marked port is chosen
+pub finds-some : (key : ℕ → ℕ) (cs : List Candidate) (p : ℕ) → isMarked cs p ≡ true → Chosen key cs p → Finds key cs (Some p)
+finds-some key cs p e chosen = record { value = same (leastMarked key cs) (sofar-least key cs); law = chosen }
+  where
+    same : (o : Option ℕ) → Sofar (isMarked cs) key (length (thatCount cs)) o → Some p ≡ o
+    same None s = absurd (both-ways (isMarked cs p) (s p (counts cs p e)) e)
+    same (Some b) s = ap (λ (n : ℕ). Some n) (chosen-unique key cs p b chosen (chosen-sofar key cs (length (thatCount cs)) (Some b) (omega arith) s))
+
+-- the best of all that count was kept
+pub finds-sofar : (key : ℕ → ℕ) (cs : List Candidate) (i : ℕ) (best : Option ℕ) → length (thatCount cs) ≤ i → Sofar (isMarked cs) key i best → Finds key cs best
+finds-sofar key cs i None all s = finds-none key cs (λ q t. both-ways (isMarked cs q) (s q (omega (arith, counts cs q t))) t)
+finds-sofar key cs i (Some b) all s = finds-some key cs b (s .here .1) (chosen-sofar key cs i (Some b) all s)
 
 -- a rule that picks by a key keeps the law
 pub picked-lawful : {S : Type 0} (key : S → List Candidate → ℕ → ℕ) → Lawful (λ (s : S) cs. picked (key s cs) cs)
@@ -208,15 +218,8 @@ module _ (cs counted : List Candidate) (is : counted ≡ thatCount cs) where
   pub read-marked : (p : ℕ) (b : Bool) → b ≡ getD counted p nobody .marked → isMarked cs p ≡ b
   read-marked p b r = sym (r ∙ ap (λ (l : List Candidate). getD l p nobody .marked) is)
 
-  pub read-stamp : (p n : ℕ) → n ≡ getD counted p nobody .stamp → stampOf cs p ≡ n
-  read-stamp p n r = sym (r ∙ ap (λ (l : List Candidate). getD l p nobody .stamp) is)
-
   pub read-few : length counted ≤ 256
   read-few = omega (arith, few cs, ap length is)
 
   pub read-counts : (p : ℕ) → isMarked cs p ≡ true → p < length counted
   read-counts p e = omega (arith, counts cs p e, ap length is)
-
--- an answer that is chosen, as a contract states it
-pub as-picked : (key : ℕ → ℕ) (cs : List Candidate) (p : ℕ) → Chosen key cs p → record { value : p ≡ picked key cs; law : Chosen key cs p }
-as-picked key cs p h = record { value = picked-chosen key cs p h; law = h }

@@ -1,7 +1,8 @@
 -- What a tie rule picks. Assumes nothing.
 --     Lawful picks          the law that every rule keeps
---     picked key cs         the marked port with the smallest key, the lower port among equals
---     Chosen key cs p       p is that port, said of all marked ports
+--     leastMarked key cs    the marked port with the smallest key, the lower port among equals, if a port is marked
+--     picked key cs         that port, and 256 where no port is marked
+--     Chosen key cs p       p is what is picked, said of all marked ports
 --     distance n s p        (p - s) mod n, which GoesRound says of it
 --     lowest, nearest, oldest     what the three plain rules pick
 --     AgreeOnOne            the three agree where just one port is marked
@@ -12,6 +13,9 @@ use Prim.Native.Nat.{ℕ, _+_, _-_, _%_, _≤_, _<_}
 use lib.Dec.{eqb, leb, ltb}
 use lib.ListN.{length}
 use Rattle.std.specs.Iters.{folded}
+use Rattle.std.specs.Options.{valueOr}
+use Rattle.std.specs.declared.option.Option.{Option}
+use Rattle.std.specs.declared.option.Option.the-variants.{Some, None}
 use Rattle.tie.specs.declared.candidate.Candidate.{Candidate}
 use Rattle.tie.specs.declared.lowest_port.LowestPort.{LowestPort}
 use Rattle.tie.specs.declared.oldest_head.OldestHead.{OldestHead}
@@ -27,16 +31,20 @@ pub record Lawful {S : Type 0} (picks : S → List Candidate → ℕ) : Type 0 w
 abbrev pub smaller : (ℕ → ℕ) → ℕ → ℕ → ℕ
 smaller key p q = cond (ltb (key q) (key p)) q p
 
--- of these ports the first with the smallest key; 256 where there is no port
-abbrev pub smallest : (ℕ → ℕ) → List ℕ → ℕ
-smallest key [] = 256
-smallest key (p ∷ ps) = folded (smaller key) p ps
+-- of these ports the first with the smallest key, if there is a port
+abbrev pub smallest : (ℕ → ℕ) → List ℕ → Option ℕ
+smallest key [] = None
+smallest key (p ∷ ps) = Some (folded (smaller key) p ps)
 
--- the marked port with the smallest key, the lower port among equals; 256 where none is marked
-unfoldable pub picked : (ℕ → ℕ) → List Candidate → ℕ
-picked key cs = smallest key (markedPorts cs)
+-- the marked port with the smallest key, the lower port among equals, if a port is marked
+unfoldable pub leastMarked : (ℕ → ℕ) → List Candidate → Option ℕ
+leastMarked key cs = smallest key (markedPorts cs)
 
--- p is that port: it is marked if any port is, its key is at most that of every marked port, and no marked port with the same key is lower
+-- the same as a pick: 256 where no port is marked
+abbrev pub picked : (ℕ → ℕ) → List Candidate → ℕ
+picked key cs = valueOr (leastMarked key cs) 256
+
+-- p is what is picked: it is marked if any port is, and 256 otherwise; its key is at most that of every marked port, and no marked port with the same key is lower
 pub record Chosen (key : ℕ → ℕ) (cs : List Candidate) (p : ℕ) : Type 0 where
   pub some : (q : ℕ) → isMarked cs q ≡ true → isMarked cs p ≡ true
   pub none : ((q : ℕ) → isMarked cs q ≡ false) → p ≡ 256

@@ -57,6 +57,6 @@ toldBelow after layer v = record { shelters = layer .shelters; rule = after (lay
 abbrev pub shelterAnswer : ℕ → Result (Unit {0}) Refusal
 shelterAnswer p = cond (leb p 255) (Ok tt) (Err ShelterPort)
 
--- port p, and no other, has this yes or no; at a refusal the layer is as it was
+-- the yes or no of port p becomes b, and no other changes; at a refusal the layer is as it was
 abbrev pub shelterAfter : {R : Type 0} → Sheltering R → ℕ → Bool → Sheltering R
 shelterAfter layer p b = cond (leb p 255) (record { shelters = record { sheltered = set (layer .shelters .sheltered) p b }; rule = layer .rule }) layer

@@ -1,7 +1,7 @@
 // lowest_port.rt — the rule by which the lowest marked port loses.
 ghost use mathlib.Core.Path.{_≡_};
 ghost use Rattle.std.specs.Options.{valueOr};
-ghost use Rattle.tie.specs.Rules.{picked, Chosen, lowest};
+ghost use Rattle.tie.specs.Rules.{leastMarked, Chosen, lowest};
 use crate::candidate::Candidate;
 use crate::candidate::NO_PORT;
 use crate::candidate::that_count;
@@ -36,7 +36,7 @@ pub impl TieRule for LowestPort as LowestPortTieRule {
 
 // The lowest of the marked candidates that count.
 fn lowest_marked(candidates: &[Candidate]) -> Option<usize>
-    ensures value { λ r. ⌜ valueOr r 256 ≡ picked (λ p. p) (now (candidates .entry)) ⌝ }
+    ensures value { λ r. ⌜ r ≡ leastMarked (λ p. p) (now (candidates .entry)) ⌝ }
     ensures law { λ r. ⌜ Chosen (λ p. p) (now (candidates .entry)) (valueOr r 256) ⌝ }
 {
     for (port, candidate) in that_count(candidates).iter().enumerate() {

@@ -4,7 +4,7 @@ ghost use Prim.Native.Nat.{_<_};
 ghost use lib.ListN.{length, getD};
 ghost use Rattle.std.specs.Options.{valueOr};
 ghost use Rattle.tie.specs.Candidates.{nobody, stampOf};
-ghost use Rattle.tie.specs.Rules.{smaller, picked, Chosen, oldest};
+ghost use Rattle.tie.specs.Rules.{smaller, leastMarked, Chosen, oldest};
 use crate::candidate::Candidate;
 use crate::candidate::NO_PORT;
 use crate::candidate::that_count;
@@ -40,7 +40,7 @@ pub impl TieRule for OldestHead as OldestHeadTieRule {
 
 // The first of the marked candidates that count with the smallest stamp.
 fn oldest_marked(candidates: &[Candidate]) -> Option<usize>
-    ensures value { λ r. ⌜ valueOr r 256 ≡ picked (stampOf (now (candidates .entry))) (now (candidates .entry)) ⌝ }
+    ensures value { λ r. ⌜ r ≡ leastMarked (stampOf (now (candidates .entry))) (now (candidates .entry)) ⌝ }
     ensures law { λ r. ⌜ Chosen (stampOf (now (candidates .entry))) (now (candidates .entry)) (valueOr r 256) ⌝ }
 {
     let candidates = that_count(candidates);

@@ -4,7 +4,7 @@ ghost use Prim.Native.Nat.{_+_, _%_, _<_, _≤_};
 ghost use lib.ListN.{length};
 ghost use Rattle.std.specs.Options.{valueOr};
 ghost use Rattle.tie.specs.Candidates.{thatCount};
-ghost use Rattle.tie.specs.Rules.{Chosen, distance, GoesRound, nearest, turned};
+ghost use Rattle.tie.specs.Rules.{leastMarked, Chosen, distance, GoesRound, nearest, turned};
 use crate::candidate::Candidate;
 use crate::candidate::MAX_PORTS;
 use crate::candidate::NO_PORT;
@@ -27,7 +27,7 @@ impl Rotating {
 
     // The first of the marked candidates that count, going round from the start.
     fn next_marked(&self, candidates: &[Candidate]) -> Option<usize>
-        ensures value { λ r. ⌜ valueOr r 256 ≡ nearest (now (self .entry)) (now (candidates .entry)) ⌝ }
+        ensures value { λ r. ⌜ r ≡ leastMarked (distance (length (thatCount (now (candidates .entry)))) (now (self .entry) .start)) (now (candidates .entry)) ⌝ }
         ensures law { λ r. ⌜ Chosen (distance (length (thatCount (now (candidates .entry)))) (now (self .entry) .start)) (now (candidates .entry)) (valueOr r 256) ⌝ }
         ensures round { λ _. ⌜ GoesRound (length (thatCount (now (candidates .entry)))) (now (self .entry) .start) ⌝ }
     {

@@ -4,7 +4,7 @@ use native.Mathlib.Omega.{arith}
 use lib.ListN.{length}
 use Rattle.std.specs.declared.option.Option.{Option}
 use Rattle.tie.specs.Candidates.{isMarked}
-use Rattle.tie.proofs.Picking.{Sofar, sofar-passes, best-takes, chosen-sofar, picked-chosen, read-marked, read-few}
+use Rattle.tie.proofs.Picking.{Sofar, sofar-passes, best-takes, finds-sofar, read-marked, read-few}
 use Rattle.example_rule.specs.Highest.{fromTheTop}
 use Rattle.example_rule.proofs.highest_marked.Needs as need
 use Rattle.example_rule.proofs.highest_marked.Needs.{then-is-marked, else-is-marked}
@@ -23,4 +23,4 @@ loop-port-again c =
 pub returns : need.returns
 returns c =
     let is = c .that-count-candidate-items .ensures .value in
-    picked-chosen _ _ _ (chosen-sofar _ _ _ (c .loop-port .best) (omega (arith, ap length is)) (c .loop-port .inv))
+    finds-sofar _ _ _ (c .loop-port .best) (omega (arith, ap length is)) (c .loop-port .inv) .value

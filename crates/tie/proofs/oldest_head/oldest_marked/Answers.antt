@@ -1,4 +1,4 @@
-use mathlib.Core.Path.{_≡_, sym, ap, subst, _∙_}
+use mathlib.Core.Path.{sym, ap, subst, _∙_}
 use mathlib.Core.List.{List}
 use Prim.Native.Nat.{ℕ, _+_}
 use native.Mathlib.Omega.{arith}
@@ -8,7 +8,7 @@ use Rattle.std.specs.declared.option.Option.the-variants.{Some}
 use Rattle.tie.specs.declared.candidate.Candidate.{Candidate}
 use Rattle.tie.specs.Candidates.{nobody, isMarked, stampOf}
 use Rattle.tie.specs.Rules.{smaller}
-use Rattle.tie.proofs.Picking.{Best, Sofar, sofar-passes, best-more, best-first, chosen-sofar, as-picked, read-marked}
+use Rattle.tie.proofs.Picking.{Best, Sofar, sofar-passes, best-more, best-first, finds-sofar, read-marked}
 use Rattle.tie.proofs.oldest_head.oldest_marked.Needs as need
 use Rattle.tie.proofs.oldest_head.oldest_marked.Needs.{in-Some, in-None}
 
@@ -41,4 +41,4 @@ loop-port-again c =
 pub returns : need.returns
 returns c =
     let is = c .that-count-candidates .ensures .value in
-    as-picked _ _ _ (chosen-sofar _ _ _ (c .loop-port .best) (omega (arith, ap length is)) (c .loop-port .inv))
+    finds-sofar _ _ _ (c .loop-port .best) (omega (arith, ap length is)) (c .loop-port .inv)

@@ -1,12 +1,11 @@
 use mathlib.Core.Path.{_≡_, ap, subst}
 use mathlib.Core.Bool.{false}
-use Prim.Native.Nat.{_<_, _≤_}
 use native.Mathlib.Omega.{arith}
 use lib.ListN.{length}
 use borrow.Author.Count.{below-none, below-more}
 use Rattle.tie.specs.Candidates.{isMarked}
 use Rattle.tie.proofs.Picking.{read-marked, read-few}
-use Rattle.tie.proofs.Turning.{chosen-turn, chosen-round, as-nearest}
+use Rattle.tie.proofs.Turning.{comes-some, comes-none}
 use Rattle.tie.proofs.rotating.Rotating.next_marked.Needs as need
 
 pub loop-step-holds : need.loop-step-holds
@@ -19,7 +18,7 @@ pub returns-then-is-marked : need.returns-then-is-marked
 returns-then-is-marked c =
     let is = c .that-count-candidates .ensures .value in
     let here = read-marked _ _ is _ _ (c .if-is-marked .ensures tt .value) in
-    as-nearest _ _ _ (ap length is) _ (chosen-turn _ _ _ (ap length is) _ _ (c .loop-step-test .taken) (c .port-at-port .ensures .value) here (c .loop-step .inv))
+    comes-some _ _ _ (ap length is) _ _ (c .loop-step-test .taken) (c .port-at-port .ensures .value) here (c .loop-step .inv)
 
 pub loop-step-again : need.loop-step-again
 loop-step-again c =
@@ -29,4 +28,4 @@ loop-step-again c =
 pub returns : need.returns
 returns c =
     let is = c .that-count-candidates .ensures .value in
-    as-nearest _ _ _ (ap length is) _ (chosen-round _ _ _ (ap length is) (λ d l. c .loop-step .inv d (omega arith)))
+    comes-none _ _ _ (ap length is) (λ d l. c .loop-step .inv d (omega arith))
