@@ -1,4 +1,6 @@
 // check_trace — says what is in the trace on standard input, or which of its lines is refused first and why.
+#![tactic(auto)]
+
 use anyhow::anyhow;
 use std::io;
 use std::io::Read;

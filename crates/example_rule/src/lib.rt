@@ -1,4 +1,6 @@
 // example_rule — a tie rule written outside the crate `tie`, as docs/TIE-RULES.md shows: the highest marked port loses.
+#![tactic(auto)]
+
 ghost use Rattle.std.specs.Prelude.{◌≡◌};
 ghost use Rattle.example_rule.specs.Highest.{highest, from_the_top};
 ghost use Rattle.tie.specs.Rules.{least_marked};

@@ -1,4 +1,6 @@
 // lqd — what Longest Queue Drop is, what any schedule may do, and the laws between them.
+#![tactic(auto)]
+
 mod examples;
 mod promises;
 

@@ -1,4 +1,6 @@
 // refusal — why a call of the product refused: one name for each number of the table in docs/REFUSALS.md.
+#![tactic(auto)]
+
 ghost use Rattle.std.specs.Prelude.{◌≡◌};
 ghost use Rattle.refusal.specs.Table.{number_of, column_of};
 

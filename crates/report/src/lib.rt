@@ -1,4 +1,6 @@
 // report — writing a report: number fields, lines of four numbers, the head line, the X line.
+#![tactic(auto)]
+
 mod field;
 mod line;
 #[cfg(test)]

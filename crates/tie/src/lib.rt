@@ -1,4 +1,6 @@
 // tie — tie rules: which of the longest queues loses a cell when the memory is full.
+#![tactic(auto)]
+
 mod candidate;
 mod laws;
 mod lowest_port;

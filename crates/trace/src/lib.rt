@@ -1,4 +1,6 @@
 // trace — reading a trace: its lines, its head, its events, and what a whole file holds.
+#![tactic(auto)]
+
 mod damage;
 mod events;
 mod field;
