@@ -95,5 +95,5 @@ fn tick(line: &[u8]) -> Result<Event, Refusal>
 fn is_blank(octets: &[u8]) -> bool
     ensures { result ≡ bytes_eq octets.now blank }
 {
-    octets == b"        "
+    octets == b"        ".as_slice()
 }

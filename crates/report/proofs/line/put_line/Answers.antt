@@ -7,8 +7,8 @@ use Rattle.report.proofs.line.put_line.Goals as goal
 pub loop-n-init : goal.loop-n-init
 loop-n-init c = put_letter c.args.letter c.args.text.now (omega arith)
 
-pub put-field-requires : goal.put-field-requires
-put-field-requires c =
+pub put_field-requires : goal.put_field-requires
+put_field-requires c =
     let ns = c.args.numbers.now in
     record {
       within = omega (arith, c.loop-n.invariant.place, length-take-le c.loop-n.n-index ns (omega arith), length-set c.args.text.now 0 c.args.letter);
@@ -19,8 +19,8 @@ pub loop-n-preserved : goal.loop-n-preserved
 loop-n-preserved c =
     let ns = c.args.numbers.now in
     let k = c.loop-n.n-index in
-    subst (λ l. Put c.args.letter l (set c.args.text.now 0 c.args.letter) (c.loop-n.end + 8) c.put-field.new.text) (sym (take_more ns k 0 c.loop-n-test.true))
-    (put_more _ _ _ _ _ c.loop-n.invariant (get_or ns k 0) _ (fit_at ns k c.requires.fit c.loop-n-test.true) c.put-field.ensures.text)
+    subst (λ l. Put c.args.letter l (set c.args.text.now 0 c.args.letter) (c.loop-n.end + 8) c.put_field.new.text) (sym (take_more ns k 0 c.loop-n-test.true))
+    (put_more _ _ _ _ _ c.loop-n.invariant (get_or ns k 0) _ (fit_at ns k c.requires.fit c.loop-n-test.true) c.put_field.ensures.text)
 
 pub returns : goal.returns
 returns c =

@@ -4,10 +4,10 @@ use Rattle.report.proofs.writer.write.Goals as goal
 
 pub returns : goal.returns
 returns c =
-    let fit = sym c.if-not-all-fit.ensures in
+    let fit = sym c.if-not-all_fit.ensures in
     record {
       answer = answer_fits c.args.numbers.now 34 _ c.args.text.now fit c.if-text-lt34.false;
-      text = c.put-line.ensures;
-      fields = λ _. fields_back c.args.letter c.args.numbers.now _ _ fit c.put-line.ensures;
-      head = λ _ two. head_written c.args.letter c.args.numbers.now _ _ two c.put-line.ensures;
+      text = c.put_line.ensures;
+      fields = λ _. fields_back c.args.letter c.args.numbers.now _ _ fit c.put_line.ensures;
+      head = λ _ two. head_written c.args.letter c.args.numbers.now _ _ two c.put_line.ensures;
     }

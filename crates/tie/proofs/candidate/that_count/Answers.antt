@@ -11,4 +11,4 @@ front xs n m e = ⊎_elim
     (cases_lt (length xs) m)
 
 pub returns : goal.returns
-returns c = record { value = front c.args.candidates.now c.how-many-count.result 256 c.how-many-count.ensures }
+returns c = record { value = front c.args.candidates.now c.how_many_count.result 256 c.how_many_count.ensures }

@@ -6,15 +6,15 @@ use Rattle.tie.proofs.lowest_port.lowest_marked.Goals as goal
 pub loop-port-init : goal.loop-port-init
 loop-port-init c = below_none _
 
-pub returns-then-is-marked : goal.returns-then-is-marked
-returns-then-is-marked c =
-    let here = read_marked _ _ c.that-count-candidate-items.ensures.value _ _ c.if-is-marked.ensures.value in
+pub returns-then-is_marked : goal.returns-then-is_marked
+returns-then-is_marked c =
+    let here = read_marked _ _ c.that_count-candidate-items.ensures.value _ _ c.if-is_marked.ensures.value in
     finds_some _ _ _ here (chosen_lowest _ _ here c.loop-port.invariant)
 
 pub loop-port-preserved : goal.loop-port-preserved
-loop-port-preserved c = below_more _ _ c.loop-port.invariant (read_marked _ _ c.that-count-candidate-items.ensures.value _ _ c.if-is-marked.ensures.value)
+loop-port-preserved c = below_more _ _ c.loop-port.invariant (read_marked _ _ c.that_count-candidate-items.ensures.value _ _ c.if-is_marked.ensures.value)
 
 pub returns : goal.returns
 returns c =
-    let is = c.that-count-candidate-items.ensures.value in
+    let is = c.that_count-candidate-items.ensures.value in
     finds_none _ _ (λ q t. both_ways _ (c.loop-port.invariant q (omega (arith, read_counts _ _ is q t))) t)

@@ -6,9 +6,9 @@ use Rattle.tie.specs.Picking.{Best, Sofar, sofar_passes, best_more, best_first, 
 use Rattle.tie.proofs.oldest_head.oldest_marked.Goals as goal
 use Rattle.tie.proofs.oldest_head.oldest_marked.Goals.{in-Some, in-None}
 
-pub loop-port-preserved-then-not-is-marked : goal.loop-port-preserved-then-not-is-marked
-loop-port-preserved-then-not-is-marked c =
-    sofar_passes _ _ _ c.loop-port.best c.loop-port.invariant (read_marked _ _ c.that-count-candidates.ensures.value _ _ c.if-not-is-marked.ensures.value)
+pub loop-port-preserved-then-not-is_marked : goal.loop-port-preserved-then-not-is_marked
+loop-port-preserved-then-not-is_marked c =
+    sofar_passes _ _ _ c.loop-port.best c.loop-port.invariant (read_marked _ _ c.that_count-candidates.ensures.value _ _ c.if-not-is_marked.ensures.value)
 
 pub older-requires : goal.older-requires
 older-requires c =
@@ -19,9 +19,9 @@ older-requires c =
 pub loop-port-preserved : goal.loop-port-preserved
 loop-port-preserved c =
     let cs = c.args.candidates.now in
-    let is = c.that-count-candidates.ensures.value in
+    let is = c.that_count-candidates.ensures.value in
     let port = c.loop-port.port in
-    let here = read_marked _ _ is _ _ c.if-not-is-marked.ensures.value in
+    let here = read_marked _ _ is _ _ c.if-not-is_marked.ensures.value in
     let Now : Option ℕ → Type 0 = Sofar (is_marked cs) (stamp_of cs) port in
     let Next : Option ℕ → Type 0 = Sofar (is_marked cs) (stamp_of cs) (port + 1) in
     elim c.match-best.branch [
@@ -34,5 +34,5 @@ loop-port-preserved c =
 
 pub returns : goal.returns
 returns c =
-    let is = c.that-count-candidates.ensures.value in
+    let is = c.that_count-candidates.ensures.value in
     finds_sofar _ _ _ c.loop-port.best (omega (arith, ap length is)) c.loop-port.invariant

@@ -32,19 +32,19 @@ returns-then-value-eq0 c =
     }) in
     record { value = number_from_shows _ None none; law = none; apart = same_from_field }
 
-pub returns-in-default : goal.returns-in-default
-returns-in-default c =
+pub returns-in_default : goal.returns-in_default
+returns-in_default c =
     let none = stuck_at c.args.octets.now _ _ _ c.loop-octet-test.true c.loop-octet.invariant (record {
       space = not-space _ c.else-octet-eq32.either;
-      digit = λ _. c.in-default.ensures;
+      digit = λ _. c.in_default.ensures;
     }) in
     record { value = number_from_shows _ None none; law = none; apart = same_from_field }
 
-pub overflow-mul-value : goal.overflow-mul-value
-overflow-mul-value c = omega (arith, room_at _ _ _ _ c.loop-octet-test.true c.loop-octet.invariant (omega arith))
+pub overflow_mul-value : goal.overflow_mul-value
+overflow_mul-value c = omega (arith, room_at _ _ _ _ c.loop-octet-test.true c.loop-octet.invariant (omega arith))
 
-pub overflow-add-value : goal.overflow-add-value
-overflow-add-value c = omega (arith, c.in-Some.ensures, room_at _ _ _ _ c.loop-octet-test.true c.loop-octet.invariant (omega arith))
+pub overflow_add-value : goal.overflow_add-value
+overflow_add-value c = omega (arith, c.in-Some.ensures, room_at _ _ _ _ c.loop-octet-test.true c.loop-octet.invariant (omega arith))
 
 pub loop-octet-preserved : goal.loop-octet-preserved
 loop-octet-preserved c =

@@ -23,13 +23,13 @@ some c = omega (arith, false-eqb _ 0 c.loop-rest-test.ensures)
 pub count-requires : goal.count-requires
 count-requires c =
     let cut = c.cut-in-loop-rest.ensures in
-    sofar_countable _ _ _ _ _ c.loop-rest.invariant (some (goal.at.count-requires c).After-cut-in-loop-rest) cut.places cut.law _ (sym c.in-Ok-event-for.ensures) (omega arith)
+    sofar_countable _ _ _ _ _ c.loop-rest.invariant (some (goal.at.count-requires c).After-cut-in-loop-rest) cut.places cut.law _ (sym c.in-Ok-event_for.ensures) (omega arith)
 
-pub returns-in-Err-event-for : goal.returns-in-Err-event-for
-returns-in-Err-event-for c =
+pub returns-in-Err-event_for : goal.returns-in-Err-event_for
+returns-in-Err-event_for c =
     let cut = c.cut-in-loop-rest.ensures in
     record {
-      answer = sofar_damaged _ _ _ _ _ c.loop-rest.invariant (some (goal.at.returns-in-Err-event-for c).After-cut-in-loop-rest) cut.places cut.law _ (sym c.in-Err-event-for.ensures);
+      answer = sofar_damaged _ _ _ _ _ c.loop-rest.invariant (some (goal.at.returns-in-Err-event_for c).After-cut-in-loop-rest) cut.places cut.law _ (sym c.in-Err-event_for.ensures);
       law = tt;
     }
 
@@ -40,7 +40,7 @@ pub loop-rest-preserved : goal.loop-rest-preserved
 loop-rest-preserved c =
     let cut = c.cut-in-loop-rest.ensures in
     subst (λ s. Sofar c.args.text.now s c.cut-in-loop-rest.result.1.now) (sym c.count.ensures)
-    (sofar_more _ _ _ _ _ c.loop-rest.invariant (some (goal.at.loop-rest-preserved c).After-cut-in-loop-rest) cut.places cut.law _ (sym c.in-Ok-event-for.ensures))
+    (sofar_more _ _ _ _ _ c.loop-rest.invariant (some (goal.at.loop-rest-preserved c).After-cut-in-loop-rest) cut.places cut.law _ (sym c.in-Ok-event_for.ensures))
 
 pub returns : goal.returns
 returns c = record {

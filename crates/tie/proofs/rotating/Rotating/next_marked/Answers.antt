@@ -7,21 +7,21 @@ use Rattle.tie.proofs.rotating.Rotating.next_marked.Goals as goal
 pub loop-step-init : goal.loop-step-init
 loop-step-init c = below_none _
 
-pub port-at-port-requires : goal.port-at-port-requires
-port-at-port-requires c = (c.loop-step-test.true, read_few _ _ c.that-count-candidates.ensures.value)
+pub port_at-port-requires : goal.port_at-port-requires
+port_at-port-requires c = (c.loop-step-test.true, read_few _ _ c.that_count-candidates.ensures.value)
 
-pub returns-then-is-marked : goal.returns-then-is-marked
-returns-then-is-marked c =
-    let is = c.that-count-candidates.ensures.value in
-    let here = read_marked _ _ is _ _ c.if-is-marked.ensures.value in
-    comes_some _ _ _ (ap length is) _ _ c.loop-step-test.true c.port-at-port.ensures.value here c.loop-step.invariant
+pub returns-then-is_marked : goal.returns-then-is_marked
+returns-then-is_marked c =
+    let is = c.that_count-candidates.ensures.value in
+    let here = read_marked _ _ is _ _ c.if-is_marked.ensures.value in
+    comes_some _ _ _ (ap length is) _ _ c.loop-step-test.true c.port_at-port.ensures.value here c.loop-step.invariant
 
 pub loop-step-preserved : goal.loop-step-preserved
 loop-step-preserved c =
-    let here = read_marked _ _ c.that-count-candidates.ensures.value _ _ c.if-is-marked.ensures.value in
-    below_more _ _ c.loop-step.invariant (subst (λ p. is_marked c.args.candidates.now p ≡ false) c.port-at-port.ensures.value here)
+    let here = read_marked _ _ c.that_count-candidates.ensures.value _ _ c.if-is_marked.ensures.value in
+    below_more _ _ c.loop-step.invariant (subst (λ p. is_marked c.args.candidates.now p ≡ false) c.port_at-port.ensures.value here)
 
 pub returns : goal.returns
 returns c =
-    let is = c.that-count-candidates.ensures.value in
+    let is = c.that_count-candidates.ensures.value in
     comes_none _ _ _ (ap length is) (λ d l. c.loop-step.invariant d (omega arith))
