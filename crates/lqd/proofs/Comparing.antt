@@ -1,6 +1,6 @@
 -- A switch beside an admissible schedule of the same events: the levels of Twice and of First hold of every two runs. Assumes nothing but the law of picks.
 use Rattle.std.proofs.Common.{◌≡◌, ℕ, zero, suc, ◌+◌, ◌-◌, ◌*◌, ◌<◌, ◌≤◌, min, ◌⊎◌, List, drop, ap, ◌∙◌, inl, inr, arith}
-use Rattle.std.specs.List.{AllByRecursion as All}
+use Rattle.std.specs.List.{AllByRecursion}
 use Rattle.tie.specs.declared.candidate.Candidate.{Candidate}
 use Rattle.tie.specs.Rules.{Lawful}
 use Rattle.lqd.specs.Ports.{in_all}
@@ -94,7 +94,7 @@ module _ {R : Type 0} (picks : R → List Candidate → ℕ) (after : R → ℕ 
       }
   waiting_step tick s t o o' is sound step move before = absurd is
 
-  waiting_run : {rule : R} {es : List Event} {s : State R} {o : Stock} → All IsArrival es → Run picks after rule n b es s → Schedule n b es o → Waiting s o
+  waiting_run : {rule : R} {es : List Event} {s : State R} {o : Stock} → AllByRecursion IsArrival es → Run picks after rule n b es s → Schedule n b es o → Waiting s o
   waiting_run {s} {o} all (begins start) (begins first) = waiting_start s o first
   waiting_run all (goes {e = e} {s = s} {t = t} run step) (goes {s = o} {t = o'} schedule move) =
       waiting_step e s t o o' all.0 (run_sound picks after law n b few run) step move (waiting_run all.1 run schedule)

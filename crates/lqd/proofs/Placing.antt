@@ -1,6 +1,6 @@
 -- A cell that is kept always finds a place, so every list of events is taken; and every held cell has a place of its own. Assumes nothing but the law of picks.
 use Rattle.std.proofs.Common.{◌≡◌, ℕ, zero, suc, ◌+◌, ◌-◌, ◌<◌, ◌≤◌, cond, eqb, List, [], ◌∷◌, ◌++◌, map, length, get_or, take, drop, set, Some, None, sum_by, sum, Option, sym, refl, ap, ◌∙◌, subst, ⊎_elim, arith}
-use Rattle.std.specs.List.{AllByRecursion as All}
+use Rattle.std.specs.List.{AllByRecursion}
 use Rattle.std.proofs.lemmas.List.FromFn.{fill_by_all}
 use Rattle.std.proofs.lemmas.List.{length-map, length-set, length-take, get_or-map}
 use Rattle.std.proofs.lemmas.List.Sums.{sum_by-cons, sum-map}
@@ -103,7 +103,7 @@ module _ {R : Type 0} (picks : R → List Candidate → ℕ) (after : R → ℕ 
       (λ room. free_place n s.cells s.queues sound.queues (omega (arith, sound.cells)))
       (λ v full loses longest. place_given n b s k v sound port loses (longest k port))
 
-  taken : (rule : R) (es : List Event) → All (ForPorts n) es → (s : State R) × Run picks after rule n b es s
+  taken : (rule : R) (es : List Event) → AllByRecursion (ForPorts n) es → (s : State R) × Run picks after rule n b es s
   taken rule [] all = (opened rule n b, begins refl)
   taken rule (arrival k ∷ es) all =
       let before = taken rule es all.1 in

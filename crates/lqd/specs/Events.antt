@@ -7,7 +7,7 @@
 --     ForPorts n e             an arrival is for one of n ports
 --     ArrivalsFirst es         no arrival comes after a tick
 use Rattle.std.specs.Prelude.{ℕ, zero, suc, ◌<◌, Bool, true, false, List, [], ◌∷◌, count_by, ◌==◌}
-use Rattle.std.specs.List.{AllByRecursion as All}
+use Rattle.std.specs.List.{AllByRecursion}
 
 -- a cell arrives for a port, or a tick comes
 pub data Event : Type 0 where
@@ -56,5 +56,5 @@ ForPorts n tick = Unit {0}
 -- no arrival comes after a tick: before the newest arrival there were only arrivals
 abbrev pub ArrivalsFirst : List Event → Type 0
 ArrivalsFirst [] = Unit {0}
-ArrivalsFirst (arrival k ∷ es) = All IsArrival es
+ArrivalsFirst (arrival k ∷ es) = AllByRecursion IsArrival es
 ArrivalsFirst (tick ∷ es) = ArrivalsFirst es

@@ -13,7 +13,7 @@
 --     PlacesStayApart              every held cell has a place of its own
 --     OnlyPlacesAreFree            the events decide all but the places
 use Rattle.std.specs.Prelude.{◌≡◌, ℕ, ◌+◌, ◌*◌, ◌/◌, ◌<◌, ◌≤◌, List, map, take, drop}
-use Rattle.std.specs.List.{AllByRecursion as All}
+use Rattle.std.specs.List.{AllByRecursion}
 use Rattle.tie.specs.declared.candidate.Candidate.{Candidate}
 use Rattle.lqd.specs.Ports.{in_all}
 use Rattle.lqd.specs.Events.{Event, ago, arrivals_for, ticks_in, IsArrival, ForPorts, ArrivalsFirst}
@@ -100,7 +100,7 @@ module _ {R : Type 0} (picks : R → List Candidate → ℕ) (after : R → ℕ 
 
   -- there is a run for every list of events whose arrivals are for the n ports: no event finds the switch without a place for its cell
   abbrev pub TakesEveryList : Type 0
-  TakesEveryList = (rule : R) (n b : ℕ) → n ≤ 256 → (es : List Event) → All (ForPorts n) es → (s : State R) × Run picks after rule n b es s
+  TakesEveryList = (rule : R) (n b : ℕ) → n ≤ 256 → (es : List Event) → AllByRecursion (ForPorts n) es → (s : State R) × Run picks after rule n b es s
 
   -- no two held cells have one place
   abbrev pub PlacesStayApart : Type 0

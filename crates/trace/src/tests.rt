@@ -122,11 +122,11 @@ fn events(rt: HostRuntime) {
 #[test]
 fn cuts(rt: HostRuntime) {
     let (line, rest) = cut(b"ab\n\nc");
-    assert!(rt; line == b"ab\n");
+    assert!(rt; line == b"ab\n".as_slice());
     let (line, rest) = cut(rest);
-    assert!(rt; line == b"\n");
+    assert!(rt; line == b"\n".as_slice());
     let (line, rest) = cut(rest);
-    assert!(rt; line == b"c");
+    assert!(rt; line == b"c".as_slice());
     let (line, rest) = cut(rest);
     assert!(rt; line.is_empty());
     assert!(rt; rest.is_empty());
