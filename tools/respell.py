@@ -15,13 +15,15 @@ import sys
 # A character of a name, in clauses and in files of specs/ and proofs/.
 NAME = r"[^\s(){}\[\],;.:λ→×≡∷=|\"`]"
 TOKEN = re.compile(NAME + "+")
-DECLARED = re.compile(r"^(?:  )?(?:(?:abbrev|unfoldable|private|pub|data|record)\s+)*(" + NAME + r"+)\s*(?:[({][^)}]*[)}]\s*)*:\s")
+DECLARED = re.compile(r"^ *(?:(?:abbrev|unfoldable|private|pub|data|record)\s+)*(" + NAME + r"+)\s*(?:[({][^)}]*[)}]\s*)*:\s")
 # A word, and what it means.
 ROW = re.compile(r"^(--     \S.*?)\s{3,}(\S.*)$")
 # Words of the library that a lemma's name may begin with, before a dash.
 LIBRARY = {"length", "take", "drop"}
 # Lemmas that would fall together with the definition, or the function of src/, that they are about.
 LEMMAS = {"in-range", "for-ports", "one_more", "counts-add-up", "not-always-best", "places-stay-apart", "takes-every-list"}
+# A lemma named after a word of the old library, by the word's name in today's.
+OF_LIBRARY = {"getD-bare": "get_or_bare"}
 
 
 def crates(root):
@@ -59,6 +61,8 @@ def snake(name):
 
 
 def spelled(name, names):
+    if name in OF_LIBRARY:
+        return OF_LIBRARY[name]
     if name[0].isupper():
         return name
     parts = name.split("-")

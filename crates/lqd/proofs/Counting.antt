@@ -58,22 +58,22 @@ module _ {R : Type 0} (n b : ℕ) where
 
   -- the switch, as a schedule in c cells
   module _ (c : ℕ) (larger : b ≤ c) where
-    itself-first : (rule : R) → AtFirst n (as_stock (opened rule n b))
-    itself-first rule = record { held = opened_held rule n b; sent = opened_sent rule n b }
+    itself_first : (rule : R) → AtFirst n (as_stock (opened rule n b))
+    itself_first rule = record { held = opened_held rule n b; sent = opened_sent rule n b }
 
-    itself-longer : (k : ℕ) (s t : State R) → Kept n b k s t ⊎ Lost n b k s t → (p : ℕ) → p < n → held t p ≤ held s p + one k p
-    itself-longer k s t (inl kept) p l = omega (arith, kept.takes.longer p l)
-    itself-longer k s t (inr lost) p l = omega (arith, lost.drops.changed p l)
+    itself_longer : (k : ℕ) (s t : State R) → Kept n b k s t ⊎ Lost n b k s t → (p : ℕ) → p < n → held t p ≤ held s p + one k p
+    itself_longer k s t (inl kept) p l = omega (arith, kept.takes.longer p l)
+    itself_longer k s t (inr lost) p l = omega (arith, lost.drops.changed p l)
 
-    itself-arrival : (k : ℕ) (s t : State R) → Sound n b s → Arrived n b k s t → AtArrival n c k (as_stock s) (as_stock t)
-    itself-arrival k s t sound facts = record {
-      held = itself-longer k s t facts.way;
+    itself_arrival : (k : ℕ) (s t : State R) → Sound n b s → Arrived n b k s t → AtArrival n c k (as_stock s) (as_stock t)
+    itself_arrival k s t sound facts = record {
+      held = itself_longer k s t facts.way;
       room = omega (arith, facts.sound.fits);
       sent = arrived_sent n b s t sound k facts;
     }
 
-    itself-tick : (s t : State R) → Sound n b s → Ticked n b s t → AtTick n (as_stock s) (as_stock t)
-    itself-tick s t sound facts = record {
+    itself_tick : (s t : State R) → Sound n b s → Ticked n b s t → AtTick n (as_stock s) (as_stock t)
+    itself_tick s t sound facts = record {
       sends = λ p. min (held s p) 1;
       once = λ p l. omega arith;
       held = λ p l. omega (arith, facts.shorter p l);
@@ -84,11 +84,11 @@ module _ {R : Type 0} (n b : ℕ) where
 module _ {R : Type 0} (picks : R → List Candidate → ℕ) (after : R → ℕ → R) where
   event_period : (e : Event) (s t : State R) → Step picks after s e t → t.period ≡ s.period + cond (is_tick e) 1 0
   unfolding arrive ticked
-  event_period (arrival k) s t step = ap (λ t. t.period) step.gives ∙ outcome-period (loser picks s k)
+  event_period (arrival k) s t step = ap (λ t. t.period) step.gives ∙ outcome_period (loser picks s k)
     where
-      outcome-period : (o : Option ℕ) → (outcome after s k step.place o).period ≡ s.period + 0
-      outcome-period None = omega arith
-      outcome-period (Some v) = omega arith
+      outcome_period : (o : Option ℕ) → (outcome after s k step.place o).period ≡ s.period + 0
+      outcome_period None = omega arith
+      outcome_period (Some v) = omega arith
   event_period tick s t step = ap (λ t. t.period) step
 
   run_period : {rule : R} {n b : ℕ} {es : List Event} {s : State R} → Run picks after rule n b es s → s.period ≡ ticks_in es
@@ -147,11 +147,11 @@ module _ {R : Type 0} (picks : R → List Candidate → ℕ) (after : R → ℕ 
   itself_admissible rule n b few es s run c larger = itself run
     where
       move : (e : Event) (s t : State R) → Sound n b s → Facts n b s e t → Move n c (as_stock s) e (as_stock t)
-      move (arrival k) s t sound facts = itself-arrival n b c larger k s t sound facts
-      move tick s t sound facts = itself-tick n b c larger s t sound facts
+      move (arrival k) s t sound facts = itself_arrival n b c larger k s t sound facts
+      move tick s t sound facts = itself_tick n b c larger s t sound facts
 
       itself : {es : List Event} {s : State R} (run : Run picks after rule n b es s) → (schedule : Schedule n c es (as_stock s)) × ((i : ℕ) → ago schedule i ≡ as_stock (ago run i))
-      itself (begins start) = (begins (subst (λ s. AtFirst n (as_stock s)) (sym start) (itself-first n b c larger rule)), elim [ zero ↦ refl | suc i ↦ refl ])
+      itself (begins start) = (begins (subst (λ s. AtFirst n (as_stock s)) (sym start) (itself_first n b c larger rule)), elim [ zero ↦ refl | suc i ↦ refl ])
       itself (goes {e = e} {s = s} {t = t} run step) =
           let sound = run_sound picks after law n b few run in
           let before = itself run in

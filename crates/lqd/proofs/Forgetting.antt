@@ -16,10 +16,10 @@ use Rattle.lqd.proofs.Replaying.{replayed, losses_in}
 abbrev bare : Held → Held
 bare cell = record { place = 0; period = cell.period }
 
-get_d_bare : (queues : List (List Held)) (p : ℕ) → get_or (map (map bare) queues) p [] ≡ map bare (get_or queues p [])
-get_d_bare [] p = refl
-get_d_bare (q ∷ queues) zero = refl
-get_d_bare (q ∷ queues) (suc p) = get_d_bare queues p
+get_or_bare : (queues : List (List Held)) (p : ℕ) → get_or (map (map bare) queues) p [] ≡ map bare (get_or queues p [])
+get_or_bare [] p = refl
+get_or_bare (q ∷ queues) zero = refl
+get_or_bare (q ∷ queues) (suc p) = get_or_bare queues p
 
 head_bare : (q : List Held) (d : ℕ) → head_period (map bare q) d ≡ head_period q d
 head_bare [] d = refl
@@ -32,7 +32,7 @@ empty_bare (suc n) = ap {B = List (List Held)} (λ qs. [] ∷ qs) (empty_bare n)
 joined_bare : (queues : List (List Held)) (k : ℕ) (cell : Held) → map (map bare) (set queues k (get_or queues k [] ++ cell ∷ [])) ≡ set (map (map bare) queues) k (get_or (map (map bare) queues) k [] ++ bare cell ∷ [])
 joined_bare queues k cell =
     map-set (map bare) queues k (get_or queues k [] ++ cell ∷ []) ∙
-    ap (set (map (map bare) queues) k) (map-append bare (get_or queues k []) (cell ∷ []) ∙ ap (λ q. q ++ bare cell ∷ []) (sym (get_d_bare queues k)))
+    ap (set (map (map bare) queues) k) (map-append bare (get_or queues k []) (cell ∷ []) ∙ ap (λ q. q ++ bare cell ∷ []) (sym (get_or_bare queues k)))
 
 tail_bare : (queues : List (List Held)) (v : ℕ) → map (map bare) (without_tail queues v) ≡ without_tail (map (map bare) queues) v
 tail_bare queues v =
@@ -40,7 +40,7 @@ tail_bare queues v =
     ap (set (map (map bare) queues) v)
     (sym (take-map bare (length (get_or queues v []) - 1) (get_or queues v [])) ∙
     ap (λ m. take (m - 1) (map bare (get_or queues v []))) (sym (length-map (get_or queues v []) bare)) ∙
-    ap (λ (q : List Held). take (length q - 1) q) (sym (get_d_bare queues v)))
+    ap (λ (q : List Held). take (length q - 1) q) (sym (get_or_bare queues v)))
 
 heads_bare : (queues : List (List Held)) → map (map bare) (map (drop 1) queues) ≡ map (drop 1) (map (map bare) queues)
 heads_bare queues =
@@ -48,10 +48,10 @@ heads_bare queues =
 
 module _ {R : Type 0} where
   held_bare : (s : State R) → held (without_places s) ≡ held s
-  held_bare s = fun_ext (λ p. ap length (get_d_bare s.queues p) ∙ length-map (queue s p) bare)
+  held_bare s = fun_ext (λ p. ap length (get_or_bare s.queues p) ∙ length-map (queue s p) bare)
 
   stamp_bare : (s : State R) (k : ℕ) → stamp (without_places s) k ≡ stamp s k
-  stamp_bare s k = fun_ext (λ p. ap (λ q. head_period q (cond (eqb p k) s.period 0)) (get_d_bare s.queues p) ∙ head_bare (queue s p) (cond (eqb p k) s.period 0))
+  stamp_bare s k = fun_ext (λ p. ap (λ q. head_period q (cond (eqb p k) s.period 0)) (get_or_bare s.queues p) ∙ head_bare (queue s p) (cond (eqb p k) s.period 0))
 
   -- the candidates, of the lengths and the stamps alone
   abbrev given : State R → ℕ → (ℕ → ℕ) → (ℕ → ℕ) → List Candidate
@@ -89,47 +89,47 @@ module _ {R : Type 0} where
       ap (holding (without_places (ticked s))) (heads_bare s.queues) ∙ ap sending (sym (held_bare s))
 
   module _ (picks : R → List Candidate → ℕ) (after : R → ℕ → R) where
-    loser-bare : (s : State R) (k : ℕ) → loser picks (without_places s) k ≡ loser picks s k
+    loser_bare : (s : State R) (k : ℕ) → loser picks (without_places s) k ≡ loser picks s k
     unfolding loser
-    loser-bare s k =
+    loser_bare s k =
         ap (λ h. cond (ltb (in_all s.ports h) s.cells) None (Some (picks s.rule (candidates (without_places s) k)))) (held_bare s) ∙
         ap (λ cs. cond (ltb (in_all s.ports (held s)) s.cells) None (Some (picks s.rule cs))) (candidates_bare s k)
 
-    outcome-bare : (s : State R) (k x : ℕ) (o : Option ℕ) → without_places (outcome after s k x o) ≡ outcome after (without_places s) k 0 o
-    outcome-bare s k x None = ap (holding (without_places (enqueued s k x))) (joined_bare s.queues k (record { place = x; period = s.period }))
-    outcome-bare s k x (Some v) =
+    outcome_bare : (s : State R) (k x : ℕ) (o : Option ℕ) → without_places (outcome after s k x o) ≡ outcome after (without_places s) k 0 o
+    outcome_bare s k x None = ap (holding (without_places (enqueued s k x))) (joined_bare s.queues k (record { place = x; period = s.period }))
+    outcome_bare s k x (Some v) =
         ap (holding (without_places (pushed_out after (enqueued s k x) v))) (tail_bare (enqueued s k x).queues v ∙ ap (λ qs. without_tail qs v) (joined_bare s.queues k (record { place = x; period = s.period })))
 
-    arrive-bare : (s : State R) (k x : ℕ) → without_places (arrive picks after s k x) ≡ arrive picks after (without_places s) k 0
+    arrive_bare : (s : State R) (k x : ℕ) → without_places (arrive picks after s k x) ≡ arrive picks after (without_places s) k 0
     unfolding arrive
-    arrive-bare s k x = outcome-bare s k x (loser picks s k) ∙ ap (outcome after (without_places s) k 0) (sym (loser-bare s k))
+    arrive_bare s k x = outcome_bare s k x (loser picks s k) ∙ ap (outcome after (without_places s) k 0) (sym (loser_bare s k))
 
-    lost-bare : (s : State R) (e : Event) → lost_in picks s e ≡ lost_in picks (without_places s) e
-    lost-bare s (arrival k) = ap (λ o. elim o as (λ v. List Loss) [ None ↦ [] | Some v ↦ record { period = s.period; arriving = k; losing = v } ∷ [] ]) (sym (loser-bare s k))
-    lost-bare s tick = refl
+    lost_bare : (s : State R) (e : Event) → lost_in picks s e ≡ lost_in picks (without_places s) e
+    lost_bare s (arrival k) = ap (λ o. elim o as (λ v. List Loss) [ None ↦ [] | Some v ↦ record { period = s.period; arriving = k; losing = v } ∷ [] ]) (sym (loser_bare s k))
+    lost_bare s tick = refl
 
     -- a run is what its events give with every place 0
     module _ (rule : R) (n b : ℕ) where
       plain : List Event → State R
       plain es = replayed picks after rule n b es (λ i. 0)
 
-      step-bare : (e : Event) (es : List Event) (s t : State R) → Step picks after s e t → without_places s ≡ plain es → without_places t ≡ plain (e ∷ es)
+      step_bare : (e : Event) (es : List Event) (s t : State R) → Step picks after s e t → without_places s ≡ plain es → without_places t ≡ plain (e ∷ es)
       unfolding plain replayed
-      step-bare (arrival k) es s t step same = ap without_places step.gives ∙ arrive-bare s k step.place ∙ ap (λ s. arrive picks after s k 0) same
-      step-bare tick es s t step same = ap without_places step ∙ tick_bare s ∙ ap ticked same
+      step_bare (arrival k) es s t step same = ap without_places step.gives ∙ arrive_bare s k step.place ∙ ap (λ s. arrive picks after s k 0) same
+      step_bare tick es s t step same = ap without_places step ∙ tick_bare s ∙ ap ticked same
 
-      run-bare : {es : List Event} {s : State R} → Run picks after rule n b es s → without_places s ≡ plain es
+      run_bare : {es : List Event} {s : State R} → Run picks after rule n b es s → without_places s ≡ plain es
       unfolding plain replayed
-      run-bare (begins start) = ap without_places start ∙ ap (holding (opened rule n b)) (empty_bare n)
-      run-bare (goes {es = es} {e = e} {s = s} {t = t} run step) = step-bare e es s t step (run-bare run)
+      run_bare (begins start) = ap without_places start ∙ ap (holding (opened rule n b)) (empty_bare n)
+      run_bare (goes {es = es} {e = e} {s = s} {t = t} run step) = step_bare e es s t step (run_bare run)
 
-      losses-bare : {es : List Event} {s : State R} (run : Run picks after rule n b es s) → losses picks after run ≡ losses_in picks after rule n b es (λ i. 0)
+      losses_bare : {es : List Event} {s : State R} (run : Run picks after rule n b es s) → losses picks after run ≡ losses_in picks after rule n b es (λ i. 0)
       unfolding plain losses_in
-      losses-bare (begins start) = refl
-      losses-bare (goes {es = es} {e = e} {s = s} run step) =
-          ap (λ these. these ++ lost_in picks s e) (losses-bare run) ∙
-          ap (λ last. losses_in picks after rule n b es (λ i. 0) ++ last) (lost-bare s e ∙ ap (λ s. lost_in picks s e) (run-bare run))
+      losses_bare (begins start) = refl
+      losses_bare (goes {es = es} {e = e} {s = s} run step) =
+          ap (λ these. these ++ lost_in picks s e) (losses_bare run) ∙
+          ap (λ last. losses_in picks after rule n b es (λ i. 0) ++ last) (lost_bare s e ∙ ap (λ s. lost_in picks s e) (run_bare run))
 
 pub only_places : {R : Type 0} (picks : R → List Candidate → ℕ) (after : R → ℕ → R) → OnlyPlacesAreFree picks after
 only_places picks after rule n b es s t run other =
-    (run-bare picks after rule n b run ∙ sym (run-bare picks after rule n b other), losses-bare picks after rule n b run ∙ sym (losses-bare picks after rule n b other))
+    (run_bare picks after rule n b run ∙ sym (run_bare picks after rule n b other), losses_bare picks after rule n b run ∙ sym (losses_bare picks after rule n b other))

@@ -128,15 +128,15 @@ module _ {R : Type 0} (picks : R → List Candidate → ℕ) (after : R → ℕ 
         ap (λ s. comes_to 1 s h) (loses_to (loses 0 (loses 0 four e) f) 1 g 1 (ap (λ v. Some v) (picks_one false _))) ∙
         loses_to (loses 1 (loses 0 (loses 0 four e) f) g) 1 h 1 (ap (λ v. Some v) (picks_one false _))
 
-    sends-five : (e f g h i j : ℕ) → sent_in_all (ticked (comes_to 1 (ticked (comes_to 1 (ticked (comes_to 1 (comes_to 1 (comes_to 1 (comes_to 1 four e) f) g) h)) i)) j)) ≡ 5
+    sends_five : (e f g h i j : ℕ) → sent_in_all (ticked (comes_to 1 (ticked (comes_to 1 (ticked (comes_to 1 (comes_to 1 (comes_to 1 (comes_to 1 four e) f) g) h)) i)) j)) ≡ 5
     unfolding in_all greatest loser arrive ticked four
-    sends-five e f g h i j = ap (λ s. sent_in_all (ticked (comes_to 1 (ticked (comes_to 1 (ticked s) i)) j))) (splits e f g h)
+    sends_five e f g h i j = ap (λ s. sent_in_all (ticked (comes_to 1 (ticked (comes_to 1 (ticked s) i)) j))) (splits e f g h)
 
   pub not_always_best_lem : R → NotAlwaysBest picks after
   unfolding two replayed four
   not_always_best_lem rule always =
       let taken = takes_every_list_lem picks after law rule 2 4 (omega arith) (in_order four_each_and_ticks) (omega arith) in
       let replay = replays picks after rule 2 4 taken.1 in
-      let five : sent_in_all taken.0 ≡ 5 = ap sent_in_all replay.state ∙ sends-five rule _ _ _ _ _ _ _ _ _ _ in
+      let five : sent_in_all taken.0 ≡ 5 = ap sent_in_all replay.state ∙ sends_five rule _ _ _ _ _ _ _ _ _ _ in
       let six = always rule 2 4 (omega arith) (in_order four_each_and_ticks) taken.0 (two 0 0 6) taken.1 sends_six 0 in
       omega arith

@@ -86,16 +86,16 @@ module _ {R : Type 0} where
   Facts n b s tick t = Ticked n b s t
 
   module _ (n b : ℕ) (s : State R) (sound : Sound n b s) where
-    enqueued-held : (k x p : ℕ) → k < n → held (enqueued s k x) p ≡ held s p + one k p
-    enqueued-held k x p l = raised length s.queues k p _ [] (omega (arith, sound.queues)) (length_push (queue s k) _)
+    enqueued_held : (k x p : ℕ) → k < n → held (enqueued s k x) p ≡ held s p + one k p
+    enqueued_held k x p l = raised length s.queues k p _ [] (omega (arith, sound.queues)) (length_push (queue s k) _)
 
-    tick-held : (p : ℕ) → p < n → length (get_or (map (drop 1) s.queues) p []) ≡ held s p - 1
-    tick-held p l = ap length (get_or-map (drop 1) s.queues p [] [] (omega (arith, sound.queues))) ∙ length-drop 1 (queue s p)
+    tick_held : (p : ℕ) → p < n → length (get_or (map (drop 1) s.queues) p []) ≡ held s p - 1
+    tick_held p l = ap length (get_or-map (drop 1) s.queues p [] [] (omega (arith, sound.queues))) ∙ length-drop 1 (queue s p)
 
-    pub tick-facts : Ticked n b s (ticked s)
+    pub tick_facts : Ticked n b s (ticked s)
     unfolding ticked
-    tick-facts = record {
-      shorter = tick-held;
+    tick_facts = record {
+      shorter = tick_held;
       offered = λ p l. refl;
       sent = λ p l. get_or-map-range_with_len _ 0 s.ports p p 0 (omega (arith, sound.ports)) (omega arith);
       lost = λ p l. refl;
@@ -106,14 +106,14 @@ module _ {R : Type 0} where
         offered = sound.offered;
         sent = length-map-range_with_len _ 0 s.ports ∙ sound.ports;
         lost = sound.lost;
-        fits = omega (arith, sound.fits, sums_le n (λ p. length (get_or (map (drop 1) s.queues) p [])) (held s) (λ p l. omega (arith, tick-held p l)));
+        fits = omega (arith, sound.fits, sums_le n (λ p. length (get_or (map (drop 1) s.queues) p [])) (held s) (λ p l. omega (arith, tick_held p l)));
       };
     }
 
     -- an arrival for port k that finds room
-    kept-facts : (k x : ℕ) → k < n → in_all n (held s) < b → Arrived n b k s (enqueued s k x)
-    kept-facts k x port room =
-        let longer : (p : ℕ) → p < n → held (enqueued s k x) p ≡ held s p + one k p = λ p l. enqueued-held k x p port in
+    kept_facts : (k x : ℕ) → k < n → in_all n (held s) < b → Arrived n b k s (enqueued s k x)
+    kept_facts k x port room =
+        let longer : (p : ℕ) → p < n → held (enqueued s k x) p ≡ held s p + one k p = λ p l. enqueued_held k x p port in
         record {
           port = port;
           offered = λ p l. one_more_lem s.offered k p (omega (arith, sound.offered));
@@ -131,13 +131,13 @@ module _ {R : Type 0} where
         }
 
     -- an arrival for port k that finds the memory full, where port v loses: one of the longest with the arriving cell counted in
-    lost-facts : (after : R → ℕ → R) (k x v : ℕ) → k < n → b ≤ in_all n (held s) → v < n → ((p : ℕ) → p < n → counted_length s k p ≤ counted_length s k v) → Arrived n b k s (pushed_out after (enqueued s k x) v)
-    lost-facts after k x v port full loses longest =
+    lost_facts : (after : R → ℕ → R) (k x v : ℕ) → k < n → b ≤ in_all n (held s) → v < n → ((p : ℕ) → p < n → counted_length s k p ≤ counted_length s k v) → Arrived n b k s (pushed_out after (enqueued s k x) v)
+    lost_facts after k x v port full loses longest =
         let queues : List (List Held) = (enqueued s k x).queues in
         let long : length queues ≡ n = length-set s.queues k _ ∙ sound.queues in
-        let some : 1 ≤ length (get_or queues v []) = omega (arith, enqueued-held k x v port, longest k port, one_here k) in
+        let some : 1 ≤ length (get_or queues v []) = omega (arith, enqueued_held k x v port, longest k port, one_here k) in
         let shorter : length (take (length (get_or queues v []) - 1) (get_or queues v [])) + 1 ≡ length (get_or queues v []) = omega (arith, length-take (length (get_or queues v []) - 1) (get_or queues v [])) in
-        let changed : (p : ℕ) → p < n → length (get_or (without_tail queues v) p []) + one v p ≡ held s p + one k p = λ p l. lowered length queues v p _ [] (omega arith) shorter ∙ enqueued-held k x p port in
+        let changed : (p : ℕ) → p < n → length (get_or (without_tail queues v) p []) + one v p ≡ held s p + one k p = λ p l. lowered length queues v p _ [] (omega arith) shorter ∙ enqueued_held k x p port in
         let drops : Drops n b k (held s) (λ p. length (get_or (without_tail queues v) p [])) = record { full = omega (arith, sound.fits); v = v; port = loses; longest = longest; changed = changed } in
         record {
           port = port;
@@ -206,12 +206,12 @@ module _ {R : Type 0} (picks : R → List Candidate → ℕ) (after : R → ℕ 
   arrive_facts s k x sound own =
       let port : k < n = omega (arith, sound.ports) in
       by_loser picks law n b few s k sound own (λ o. Arrived n b k s (outcome after s k x o))
-      (λ room. kept-facts n b s sound k x port room)
-      (λ v full loses longest. lost-facts n b s sound after k x v port full loses longest)
+      (λ room. kept_facts n b s sound k x port room)
+      (λ v full loses longest. lost_facts n b s sound after k x v port full loses longest)
 
   pub step_facts : (e : Event) (s t : State R) → Sound n b s → Step picks after s e t → Facts n b s e t
   step_facts (arrival k) s t sound step = subst (Arrived n b k s) (sym step.gives) (arrive_facts s k step.place sound step.port)
-  step_facts tick s t sound step = subst (Ticked n b s) (sym step) (tick-facts n b s sound)
+  step_facts tick s t sound step = subst (Ticked n b s) (sym step) (tick_facts n b s sound)
 
   step_sound : (e : Event) (s t : State R) → Facts n b s e t → Sound n b t
   step_sound (arrival k) s t facts = facts.sound

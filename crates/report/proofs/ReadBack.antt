@@ -53,8 +53,8 @@ head_written letter [] rest s two is = absurd (omega arith)
 head_written letter (a ∷ []) rest s two is = absurd (omega arith)
 head_written letter (a ∷ b ∷ c ∷ ns) rest s two is = absurd (omega arith)
 head_written letter (a ∷ b ∷ []) rest s two is = λ l p q.
-    let ports-in = in_range_lem 1 256 a p in
+    let ports_in = in_range_lem 1 256 a p in
     let cells_in = in_range_lem 1 4096 b q in
     let long : length (line_of letter (a ∷ b ∷ [])) ≡ 18 = omega (arith, length-append (field a ++ (field b ++ [])) (10 ∷ []), length-append (field a) (field b ++ []), length-append (field b) [], length-field a (omega arith), length-field b (omega arith)) in
     ap head_in (ap (take 18) is ∙ take_at (line_of letter (a ∷ b ∷ [])) rest 18 long)
-    ∙ (head_back (line_of letter (a ∷ b ∷ [])) (letter, a, b)).1 (record { letter = l; ports = ports-in; cells = cells_in; octets = refl })
+    ∙ (head_back (line_of letter (a ∷ b ∷ [])) (letter, a, b)).1 (record { letter = l; ports = ports_in; cells = cells_in; octets = refl })

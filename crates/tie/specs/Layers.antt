@@ -119,31 +119,31 @@ module _ {R : Type 0} (picks : R → List Candidate → ℕ) (law : Lawful picks
   -- what the rule below picks from the candidates that go down; b says whether the sheltered ones are unmarked
   module _ (rule : R) (table : List Bool) (cs : List Candidate) where
     -- where a port is exposed, an exposed port is picked
-    picks-exposed : exposes table cs ≡ true → exposed table cs (picks rule (unmarked table cs)) ≡ true
-    picks-exposed some = ⊎_elim
+    picks_exposed : exposes table cs ≡ true → exposed table cs (picks rule (unmarked table cs)) ≡ true
+    picks_exposed some = ⊎_elim
         (λ (h : is_marked (unmarked table cs) (picks rule (unmarked table cs)) ≡ true). sym (marked_unmarked table cs _) ∙ h)
         (λ (h : is_marked (unmarked table cs) (picks rule (unmarked table cs)) ≡ false).
         let hidden : (q : ℕ) → q < length (that_count cs) → exposed table cs q ≡ false = λ q l. refuted _ (λ t. both_ways _ h (law.some rule (unmarked table cs) q (marked_unmarked table cs q ∙ t))) in
         absurd (both_ways (exposes table cs) (none_counted (exposed table cs) (length (that_count cs)) hidden) some))
         (cases_Bool (is_marked (unmarked table cs) (picks rule (unmarked table cs))))
 
-    below-some : (p : ℕ) → is_marked cs p ≡ true → (b : Bool) → exposes table cs ≡ b → is_marked cs (picks rule (cond b (unmarked table cs) (that_count cs))) ≡ true
-    below-some p e true some = (and_parts _ _ (picks-exposed some)).0
-    below-some p e false none = sym (marked_counted cs _) ∙ law.some rule (that_count cs) p (marked_counted cs p ∙ e)
+    below_some : (p : ℕ) → is_marked cs p ≡ true → (b : Bool) → exposes table cs ≡ b → is_marked cs (picks rule (cond b (unmarked table cs) (that_count cs))) ≡ true
+    below_some p e true some = (and_parts _ _ (picks_exposed some)).0
+    below_some p e false none = sym (marked_counted cs _) ∙ law.some rule (that_count cs) p (marked_counted cs p ∙ e)
 
     below_none : ((p : ℕ) → is_marked cs p ≡ false) → (b : Bool) → picks rule (cond b (unmarked table cs) (that_count cs)) ≡ 256
     below_none h true = law.none rule (unmarked table cs) (λ p. marked_unmarked table cs p ∙ ap (λ b. b && not (is_sheltered table p)) (h p))
     below_none h false = law.none rule (that_count cs) (λ p. marked_counted cs p ∙ h p)
 
-    below-spares : (b : Bool) → exposes table cs ≡ b → Spares table cs (picks rule (cond b (unmarked table cs) (that_count cs)))
-    below-spares true some h q t = absurd (both_ways _ (not-true _ (and_parts _ _ (picks-exposed some)).1) h)
-    below-spares false none h q t = not-false _ (refuted _ (λ f. both_ways _ none (some_counted (exposed table cs) (length (that_count cs)) q (counts cs q t) (and_from _ _ t f))))
+    below_spares : (b : Bool) → exposes table cs ≡ b → Spares table cs (picks rule (cond b (unmarked table cs) (that_count cs)))
+    below_spares true some h q t = absurd (both_ways _ (not-true _ (and_parts _ _ (picks_exposed some)).1) h)
+    below_spares false none h q t = not-false _ (refuted _ (λ f. both_ways _ none (some_counted (exposed table cs) (length (that_count cs)) q (counts cs q t) (and_from _ _ t f))))
 
   -- a layer over a lawful rule is lawful
   pub layered_lawful : Lawful (layered picks)
   unfolding handed_down
   layered_lawful = record {
-    some = λ layer cs p e. below-some layer.rule layer.shelters.sheltered cs p e _ refl;
+    some = λ layer cs p e. below_some layer.rule layer.shelters.sheltered cs p e _ refl;
     none = λ layer cs h. below_none layer.rule layer.shelters.sheltered cs h _;
   }
 
@@ -152,5 +152,5 @@ module _ {R : Type 0} (picks : R → List Candidate → ℕ) (law : Lawful picks
   unfolding handed_down
   as_layered layer cs p e = record {
     value = e;
-    law = subst (Spares layer.shelters.sheltered cs) (sym e) (below-spares layer.rule layer.shelters.sheltered cs _ refl);
+    law = subst (Spares layer.shelters.sheltered cs) (sym e) (below_spares layer.rule layer.shelters.sheltered cs _ refl);
   }

@@ -30,7 +30,7 @@ pub trait TieRule {
     fn told(&mut self, port: usize)
         ensures after { self.new ≡ after self.old port };
 
-    // Answers `LETTER`. A generic contract can say what a function answers, and not what a constant is.
+    // Answers `LETTER`, and says in its contract which letter that is.
     fn report_letter() -> u8
         ensures value { result ≡ letter };
 

@@ -5,7 +5,7 @@ use Rattle.std.proofs.lemmas.Str.Parse.{IsNumeralModel, numerals_by_fold, tells_
 use Rattle.std.proofs.lemmas.Fmt.{decimal_step, digits_decimal, digits_value-decimal}
 use Rattle.trace.specs.Field.{read_on}
 
--- reading with `read_on`, in the shelf's terms
+-- reading with `read_on`, as the library's lemmas on digits have it
 pub own : IsNumeralModel (λ ds. (i : ℕ) → i < length ds → IsInRange 48 57 (get_or ds i 0)) (read_on 0)
 own = numerals_by_fold _ tells_by_index read_on (search rules)
 
