@@ -1,7 +1,7 @@
 // check_trace — says what is in the trace on standard input, or which of its lines is refused first and why.
 #![tactic(auto)]
 
-use anyhow::anyhow;
+use anyhow::bail;
 use std::io;
 use std::io::Read;
 use trace::{Damage, Summary};
@@ -10,32 +10,28 @@ use trace::{Damage, Summary};
 const EVENTS: usize = 90_000_000;
 
 fn main(rt: HostRuntime) -> anyhow::Result<()> {
-    run(&rt)
-}
-
-fn run(rt: &HostRuntime) -> anyhow::Result<()> {
     let mut text = Vec::new(rt.alloc());
     rt.stdin().read_to_end(&mut text)?;
     match trace::inspect(text.as_slice()) {
-        Ok(summary) => Ok(print_summary(rt, &summary)?),
+        Ok(summary) => print_summary(&rt, &summary)?,
         Err(damage) => {
-            print_damage(rt, &damage)?;
-            Err(anyhow!("a line of the trace is refused"))
+            print_damage(&rt, &damage)?;
+            bail!("a line of the trace is refused");
         }
     }
+    Ok(())
 }
 
 fn print_summary(rt: &impl Print, summary: &Summary) -> io::Result<()> {
     let (letter, ports, cells) = summary.head();
-    println!(rt; "rule      {}", rule_name(letter))?;
+    println!(rt; "rule      {}, {}", char::from(letter), summary.rule())?;
     println!(rt; "ports     {ports}")?;
     println!(rt; "cells     {cells}")?;
     println!(rt; "lines     {}", summary.lines())?;
     println!(rt; "arrivals  {}", summary.arrivals())?;
     println!(rt; "ticks     {}", summary.ticks())?;
-    for port in 0..256 {
-        let arrivals = summary.arrivals_for(port);
-        if arrivals > 0 {
+    for (port, arrivals) in summary.arrivals_by_port().iter().enumerate() {
+        if *arrivals > 0 {
             println!(rt; "port {port:>3}  {arrivals}")?;
         }
     }
@@ -54,12 +50,4 @@ fn print_damage(rt: &impl Print, damage: &Damage) -> io::Result<()> {
     println!(rt; "number    {}", refusal.number())?;
     println!(rt; "meaning   {refusal}")?;
     println!(rt; "column    {}", refusal.column())
-}
-
-fn rule_name(letter: u8) -> &'static str {
-    match letter {
-        b'L' => "L, lowest port",
-        b'R' => "R, rotating",
-        _ => "O, oldest head",
-    }
 }

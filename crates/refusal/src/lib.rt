@@ -4,6 +4,7 @@
 ghost use Rattle.std.specs.Prelude.{◌≡◌};
 ghost use Rattle.refusal.specs.Table.{number_of, column_of};
 
+use std::error::Error;
 use std::fmt;
 
 #[cfg(test)]
@@ -108,3 +109,5 @@ impl fmt::Display for Refusal {
         f.write_str(self.meaning())
     }
 }
+
+impl Error for Refusal {}

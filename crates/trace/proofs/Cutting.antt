@@ -1,10 +1,12 @@
 -- Lines: the first has the length that `line_length` says, and all of them together are the text. Assumes nothing.
-use Rattle.std.proofs.Common.{◌≡◌, ℕ, suc, ◌+◌, ◌<◌, ◌≤◌, Bool, true, false, cond, eqb, List, [], ◌∷◌, length, get_or, take, drop, sym, refl, ap, ◌∙◌, arith}
-use Rattle.std.specs.List.{flat_map}
-use Rattle.std.proofs.lemmas.List.{drop_more, drop_all}
-use Rattle.std.proofs.lemmas.Bool.{eq-eqb, ne_eqb}
-use Rattle.trace.specs.Text.{line_length, in_front, lines_of, LosesNothing}
+use Rattle.std.proofs.Common.{◌≡◌, ℕ, zero, suc, ◌+◌, ◌<◌, ◌≤◌, min, Bool, true, false, cond, eqb, Some, None, Option, MatchOption, Bor, List, [], ◌∷◌, ◌++◌, length, take, drop, sym, refl, ap, ◌∙◌, arith}
+use Rattle.std.specs.List.{flat_map, IsFirstMatchOrLen}
+use Rattle.std.specs.Option.{option_map_or}
+use Rattle.std.specs.Fn.{ComputesKey, Mut}
+use Rattle.std.proofs.lemmas.List.{take_at, drop_at, nil_from_length}
+use Rattle.trace.specs.Text.{line_length, in_front, lines_of, Cut, LosesNothing}
 
+-- a line is a part of its text
 pub line_fits : (t : List ℕ) → line_length t ≤ length t
 unfolding line_length
 line_fits [] = omega arith
@@ -16,20 +18,38 @@ unfolding line_length
 line_some [] h = absurd (omega arith)
 line_some (c ∷ cs) h = elim (eqb c 10) as (λ b. 0 < cond b 1 (suc (line_length cs))) [ true ↦ omega arith | false ↦ omega arith ]
 
--- a line that goes on past i octets
-pub line_more : (t : List ℕ) (i : ℕ) → i < length t → (get_or t i 0 ≡ 10 → ⊥) → line_length (drop i t) ≡ suc (line_length (drop (i + 1) t))
+-- the octets before the first octet 10, and that one, are the first line; all are, where there is none
+first_match : (t : List ℕ) (i : ℕ) → IsFirstMatchOrLen (λ c. eqb c 10) t i → min (i + 1) (length t) ≡ line_length t
 unfolding line_length
-line_more t i h no_end =
-    ap line_length (drop_more t i 0 h) ∙ ap (λ b. cond b 1 (suc (line_length (drop (i + 1) t)))) (ne_eqb (get_or t i 0) 10 no_end)
+first_match [] i h = omega arith
+first_match (c ∷ cs) zero h = omega arith ∙ sym (ap (λ b. cond b 1 (suc (line_length cs))) (h.1 (omega arith) 0))
+first_match (c ∷ cs) (suc i) h =
+    omega (arith, first_match cs i ((λ k d _ l. h.0 (suc k) d (omega arith) (omega arith)), λ l d. h.1 (omega arith) d))
+    ∙ sym (ap (λ b. cond b 1 (suc (line_length cs))) (h.0 0 0 (omega arith) (omega arith)))
 
-pub line_end : (t : List ℕ) (i : ℕ) → i < length t → get_or t i 0 ≡ 10 → line_length (drop i t) ≡ 1
-unfolding line_length
-line_end t i h end =
-    ap line_length (drop_more t i 0 h) ∙ ap (λ b. cond b 1 (suc (line_length (drop (i + 1) t)))) (eq-eqb (get_or t i 0) 10 end)
+-- the octets of a text through its first octet 10 are cut off
+pub cut_there : (t l r : List ℕ) (n : ℕ) → l ≡ take n t → r ≡ drop n t → n ≡ line_length t → Cut t l r
+cut_there t l r n front back is = record { front = front ∙ ap (λ k. take k t) is; back = back ∙ ap (λ k. drop k t) is }
 
-pub line_none : (t : List ℕ) (i : ℕ) → length t ≤ i → line_length (drop i t) ≡ 0
-unfolding line_length
-line_none t i h = ap line_length (drop_all i t h)
+-- what an iterator that splits the text t behind each octet that passes its test f tells of the part l that it gives: t is l and the rest r, and f' is its test after that
+module _ {F : Type 0} (g : Mut F (Bor ℕ × Unit {0}) Bool) where
+  abbrev pub Part : List ℕ → F → List ℕ → List ℕ → F → Type 0
+  Part t f l r f' = (t ≡ l ++ r) × ((i : ℕ) × (length l ≡ min (i + 1) (length t)) × ((p : ℕ → Bool) → ComputesKey g p f → ComputesKey g p f' × IsFirstMatchOrLen p t i)) × (0 < length t)
+
+  -- such a part is the first line
+  pub part_length : (t l r : List ℕ) (f f' : F) → Part t f l r f' → ComputesKey g (λ c. eqb c 10) f → length l ≡ line_length t
+  part_length t l r f f' part key = part.1.1 ∙ first_match t part.1.0 (part.1.2 (λ c. eqb c 10) key).1
+
+  pub part_cut : (t l r : List ℕ) (f f' : F) → Part t f l r f' → ComputesKey g (λ c. eqb c 10) f → Cut t l r
+  part_cut t l r f f' part key =
+      let here = part_length t l r f f' part key in
+      cut_there t l r (length l) (sym (ap (take (length l)) part.0 ∙ take_at l r (length l) refl)) (sym (ap (drop (length l)) part.0 ∙ drop_at l r (length l) refl)) here
+
+  -- the first part has the length of the first line; without a part there is no line
+  pub next_length : (t r : List ℕ) (f f' : F) (part : Option (Bor (List ℕ))) (Same : Type 0) → ComputesKey g (λ c. eqb c 10) f → MatchOption part ((length t ≡ 0) × Same) (λ l. Part t f l.now r f') → option_map_or (λ l. length l.now) part 0 ≡ line_length t
+  unfolding line_length
+  next_length t r f f' None Same key none = sym (ap line_length (nil_from_length t none.0))
+  next_length t r f f' (Some l) Same key part = part_length t l.now r f f' part key
 
 -- the first line, and then the lines of the rest
 abbrev Begins : Bool → ℕ → List ℕ → Type 0
@@ -62,14 +82,13 @@ unfolding lines_of
 no_line [] h = refl
 no_line (c ∷ cs) h = absurd (omega arith)
 
-pub loses_nothing : (t l r : List ℕ) → l ≡ take (line_length t) t → r ≡ drop (line_length t) t → LosesNothing t l r
-loses_nothing t l r front back = record {
-  next = λ h. next_line t h ∙ (λ i. sym front i ∷ lines_of (sym back i));
+pub loses_nothing : (t l r : List ℕ) → Cut t l r → LosesNothing t l r
+loses_nothing t l r c = record {
+  next = λ h. next_line t h ∙ (λ i. sym c.front i ∷ lines_of (sym c.back i));
   end = no_line t;
   whole = join_lines t;
 }
 
--- to cut after n octets, where n is the length of the line
-pub cuts_there : (t : List ℕ) (n : ℕ) → n ≡ line_length t → (n ≡ line_length t) × (n ≤ length t) × LosesNothing t (take n t) (drop n t)
-cuts_there t n e =
-    (e, omega (arith, line_fits t), loses_nothing t (take n t) (drop n t) (ap (λ k. take k t) e) (ap (λ k. drop k t) e))
+-- the same of a text that is cut there
+pub lines_kept : (t l r : List ℕ) (n : ℕ) → n ≡ line_length t → l ≡ take n t → r ≡ drop n t → LosesNothing t l r
+lines_kept t l r n is front back = loses_nothing t l r (cut_there t l r n front back is)

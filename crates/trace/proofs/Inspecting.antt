@@ -1,18 +1,21 @@
 -- What the lines that were gone through have in them, one line after the other. Assumes nothing.
-use Rattle.std.proofs.Common.{◌≡◌, ℕ, zero, suc, ◌+◌, ◌-◌, ◌^◌, ◌<◌, ◌≤◌, Bool, true, false, cond, eqb, ltb, List, [], ◌∷◌, ◌++◌, length, get_or, take, set, replicate, Some, None, Ok, Err, Result, sym, refl, ap, ◌∙◌, subst, ⊎_elim, append_assoc, append-nil, arith, length-append, length-drop, length-set, length-take}
+use Rattle.std.proofs.Common.{◌≡◌, ℕ, zero, suc, ◌+◌, ◌-◌, ◌<◌, ◌≤◌, Bool, true, false, cond, eqb, ltb, List, [], ◌∷◌, ◌++◌, length, get_or, take, set, replicate, Some, None, Ok, Err, Result, sym, refl, ap, ◌∙◌, subst, ⊎_elim, append_assoc, append-nil, arith, length-append, length-drop, length-set, length-take}
 use lib.ListN.{get_or-replicate}
 use Rattle.std.specs.Result.{result_err}
 use Rattle.std.proofs.lemmas.List.{length_push, get_or_append_left, get_or_push, get_or_at, get_or-set_same, get_or-set_other, nil_from_length}
-use Rattle.std.proofs.lemmas.List.Sums.{sum_by_push, sum_by-set, get_or-le-sum_by}
+use Rattle.std.proofs.lemmas.List.Sums.{sum_by_push, sum_by-set}
 use Rattle.std.proofs.lemmas.Bool.{cases_eq, cases_lt, eq-eqb, ne_eqb, ltb-true}
 use Rattle.refusal.specs.declared.Refusal.{Refusal}
 use Rattle.refusal.specs.declared.Refusal.TheVariants.{NoSuchPort}
 use Rattle.trace.specs.declared.events.Event.{Event}
 use Rattle.trace.specs.declared.events.Event.TheVariants.{Arrival, Tick}
+use Rattle.trace.specs.declared.damage.Damage.{Damage}
 use Rattle.trace.specs.declared.summary.Summary.{Summary}
 use Rattle.trace.specs.Line.{head_in, event_in}
+use Rattle.trace.specs.Rule.{letter_of}
+use Rattle.trace.specs.declared.rule.Rule.{Rule}
 use Rattle.trace.specs.Text.{line_length, lines_of, Cut, LosesNothing}
-use Rattle.trace.specs.Counting.{raised, tallied, counted, Placed, Countable}
+use Rattle.trace.specs.Counting.{raised, tallied, counted}
 use Rattle.trace.specs.Inspection.{for_ports, event_for, ports_of, refusal_at, is_arrival, is_arrival_for, is_tick, how_many, Whole, Damaged, AddsUp}
 use Rattle.trace.proofs.Cutting.{line_some, no_line}
 use Rattle.trace.proofs.Verdicts.{err_ok, unless_ok, ok_same}
@@ -32,7 +35,7 @@ pub record Sofar (text : List ℕ) (s : Summary) (rest : List ℕ) : Type 0 wher
   pub first : List ℕ
   pub es : List (List ℕ)
   pub split : lines_of text ≡ first ∷ (es ++ lines_of rest)
-  pub head : head_in first ≡ Ok (s.rule, s.ports, s.cells)
+  pub head : head_in first ≡ Ok (letter_of s.rule, s.ports, s.cells)
   pub few : s.ports ≤ 256
   pub counts : Counts es s
   pub room : s.lines + length rest ≤ length text
@@ -123,7 +126,7 @@ module _ (es : List (List ℕ)) (s : Summary) (line : List ℕ) (c : Counts es s
         adds = adds_more e inside;
       }
 
-pub counts_none : (rule ports cells : ℕ) → Counts [] (record { rule = rule; ports = ports; cells = cells; lines = 1; arrivals = 0; ticks = 0; tally = replicate 256 0 })
+pub counts_none : (rule : Rule) (ports cells : ℕ) → Counts [] (record { rule = rule; ports = ports; cells = cells; lines = 1; arrivals = 0; ticks = 0; tally = replicate 256 0 })
 counts_none rule ports cells = record {
   taken = λ i h. absurd (omega arith);
   lines = refl;
@@ -135,14 +138,14 @@ counts_none rule ports cells = record {
 }
 
 -- the refusals of a head and the lines es after it, which were taken
-module _ (first : List ℕ) (es more : List (List ℕ)) (s : Summary) (h : head_in first ≡ Ok (s.rule, s.ports, s.cells)) (c : Counts es s) where
+module _ (first : List ℕ) (es more : List (List ℕ)) (s : Summary) (h : head_in first ≡ Ok (letter_of s.rule, s.ports, s.cells)) (c : Counts es s) where
   none_before : (i : ℕ) → i < 1 + length es → refusal_at (first ∷ (es ++ more)) i ≡ None
   none_before zero l = ap result_err h
   none_before (suc i) l =
       let inside : i < length es = omega arith in
       (λ j. result_err (event_for (ports_of (h j)) (get_or_append_left es more [] i inside j))) ∙ c.taken i inside
 
-whole_of : (first : List ℕ) (es : List (List ℕ)) (s : Summary) → head_in first ≡ Ok (s.rule, s.ports, s.cells) → Counts es s → Whole (first ∷ es) s
+whole_of : (first : List ℕ) (es : List (List ℕ)) (s : Summary) → head_in first ≡ Ok (letter_of s.rule, s.ports, s.cells) → Counts es s → Whole (first ∷ es) s
 whole_of first es s h c = record {
   head = h;
   taken = λ i l. ap (λ m. refusal_at (first ∷ m) i) (sym (append-nil es)) ∙ none_before first es [] s h c i (omega arith);
@@ -152,10 +155,10 @@ whole_of first es s h c = record {
   tally = c.tally;
 }
 
-damaged_at : (first : List ℕ) (es more : List (List ℕ)) (line : List ℕ) (s : Summary) → head_in first ≡ Ok (s.rule, s.ports, s.cells) → Counts es s → (refusal : Refusal) → event_for s.ports line ≡ Err refusal → Damaged (first ∷ (es ++ line ∷ more)) (record { line = s.lines + 1; refusal = refusal })
-damaged_at first es more line s h c refusal e =
-    let at : s.lines + 1 - 1 ≡ suc (length es) = omega (arith, c.lines) in
-    let found : result_err (event_for (ports_of (head_in first)) (get_or (es ++ line ∷ more) (length es) [])) ≡ Some refusal =
+damaged_at : (first : List ℕ) (es more : List (List ℕ)) (line : List ℕ) (s : Summary) → head_in first ≡ Ok (letter_of s.rule, s.ports, s.cells) → Counts es s → (d : Damage) → d.line ≡ s.lines + 1 → event_for s.ports line ≡ Err d.refusal → Damaged (first ∷ (es ++ line ∷ more)) d
+damaged_at first es more line s h c d here e =
+    let at : d.line - 1 ≡ suc (length es) = omega (arith, c.lines) in
+    let found : result_err (event_for (ports_of (head_in first)) (get_or (es ++ line ∷ more) (length es) [])) ≡ Some d.refusal =
     (λ j. result_err (event_for (ports_of (h j)) (get_or_at es line more [] (length es) refl j))) ∙ ap result_err e in
     record {
       within = (omega arith, omega (arith, c.lines, length-append es (line ∷ more)));
@@ -182,7 +185,7 @@ pub cut_shorter : (t l r : List ℕ) → 0 < length t → Cut t l r → length r
 cut_shorter t l r h c = omega (arith, ap length c.back ∙ length-drop (line_length t) t, line_some t h)
 
 -- the head was read
-pub sofar_none : (text first rest : List ℕ) (rule ports cells : ℕ) → 0 < length text → Cut text first rest → LosesNothing text first rest → head_in first ≡ Ok (rule, ports, cells) → ports ≤ 256 → Sofar text (record { rule = rule; ports = ports; cells = cells; lines = 1; arrivals = 0; ticks = 0; tally = replicate 256 0 }) rest
+pub sofar_none : (text first rest : List ℕ) (rule : Rule) (ports cells : ℕ) → 0 < length text → Cut text first rest → LosesNothing text first rest → head_in first ≡ Ok (letter_of rule, ports, cells) → ports ≤ 256 → Sofar text (record { rule = rule; ports = ports; cells = cells; lines = 1; arrivals = 0; ticks = 0; tally = replicate 256 0 }) rest
 sofar_none text first rest rule ports cells some c k h few = record {
   first = first;
   es = [];
@@ -206,26 +209,11 @@ module _ (text : List ℕ) (s : Summary) (rest line after : List ℕ) (f : Sofar
     room = omega (arith, f.room, cut_shorter rest line after some c);
   }
 
-  -- there is room to count it
-  placed : (e : Event) → InPorts 256 e → Placed s e
-  placed (Arrival port tag) inside =
-      (inside, omega (arith, f.counts.adds.ports, get_or-le-sum_by (λ x. x) s.tally port 0 (omega (arith, f.counts.wide))))
-  placed Tick inside = tt
-
-  pub sofar_countable : (e : Event) → event_for s.ports line ≡ Ok e → length text < 2 ^ 63 → Countable s e
-  sofar_countable e h short = record {
-    arrivals = omega (arith, f.counts.adds.lines);
-    ticks = omega (arith, f.counts.adds.lines);
-    lines = omega (arith, f.room);
-    placed = placed e (fewer_ports e s.ports f.few (event_taken s.ports line e h).1);
-  }
-
   -- the line is refused: it is the first
-  pub sofar_damaged : (refusal : Refusal) → event_for s.ports line ≡ Err refusal → Damaged (lines_of text) (record { line = s.lines + 1; refusal = refusal })
-  sofar_damaged refusal h =
+  pub sofar_damaged : (d : Damage) → d.line ≡ s.lines + 1 → event_for s.ports line ≡ Err d.refusal → Damaged (lines_of text) d
+  sofar_damaged d here h =
       let all = f.split ∙ ap (λ l. f.first ∷ (f.es ++ l)) (k.next some) in
-      subst (λ ls. Damaged ls (record { line = s.lines + 1; refusal = refusal })) (sym all)
-      (damaged_at f.first f.es (lines_of after) line s f.head f.counts refusal h)
+      subst (λ ls. Damaged ls d) (sym all) (damaged_at f.first f.es (lines_of after) line s f.head f.counts d here h)
 
 -- at the end of the text
 pub sofar_whole : (text : List ℕ) (s : Summary) (rest : List ℕ) → Sofar text s rest → length rest ≡ 0 → Whole (lines_of text) s
@@ -234,12 +222,14 @@ sofar_whole text s rest f none =
     subst (λ ls. Whole ls s) (sym all) (whole_of f.first f.es s f.head f.counts)
 
 -- the head is refused
-pub head_damaged : (text first rest : List ℕ) (refusal : Refusal) → Cut text first rest → LosesNothing text first rest → head_in first ≡ Err refusal → Damaged (lines_of text) (record { line = 1; refusal = refusal })
-head_damaged text first rest refusal c k h = record {
-  within = (omega arith, omega arith);
-  here = ap (λ l. result_err (head_in l)) (first_line_is text first rest c k) ∙ ap result_err h;
-  before = λ i l. absurd (omega arith);
-}
+pub head_damaged : (text first rest : List ℕ) (d : Damage) → Cut text first rest → LosesNothing text first rest → d.line ≡ 1 → head_in first ≡ Err d.refusal → Damaged (lines_of text) d
+head_damaged text first rest d c k one h =
+    let at : d.line - 1 ≡ 0 = omega arith in
+    record {
+      within = (omega arith, omega arith);
+      here = ap (refusal_at (lines_of text)) at ∙ ap (λ l. result_err (head_in l)) (first_line_is text first rest c k) ∙ ap result_err h;
+      before = λ i l. absurd (omega arith);
+    }
 
 -- an empty text has no head
 pub head_some : (text first rest : List ℕ) (h : ℕ × ℕ × ℕ) → Cut text first rest → head_in first ≡ Ok h → 0 < length text

@@ -1,10 +1,9 @@
 -- The answers to a line are those to the line that was written. Assumes nothing.
-use Rattle.std.proofs.Common.{◌≡◌, ℕ, ◌<◌, ◌≤◌, Bool, true, false, cond, eqb, ◌⊎◌, List, [], ◌∷◌, get_or, Some, None, Ok, Err, Option, Result, sym, refl, ap, ◌∙◌, subst, inl, inr, ⊎_elim, arith}
+use Rattle.std.proofs.Common.{◌≡◌, ℕ, ◌≤◌, Bool, true, false, eqb, List, [], ◌∷◌, get_or, Some, None, Ok, Err, Option, Result, sym, refl, ap, ◌∙◌, subst, ⊎_elim, arith}
 use Rattle.std.specs.Result.{result_unwrap_or}
 use Rattle.std.specs.Str.{bytes_eq}
 use Rattle.std.proofs.lemmas.Slice.Eq.{bytes_eq-Decides}
-use Rattle.std.proofs.lemmas.Bool.{and_parts, and_from, le-leb, leb-true, eqb-true, cases_Bool, cond-true, cond-false, ne_eqb, or_from, lt-leb, and_left, and_right}
-use Rattle.std.proofs.lemmas.Bool.Decides.{nat_tests}
+use Rattle.std.proofs.lemmas.Bool.{and_parts, and_from, le-leb, leb-true, eqb-true, cases_Bool, cond-true, cond-false}
 use Rattle.refusal.specs.declared.FieldPlace.{FieldPlace}
 use Rattle.refusal.specs.declared.FieldPlace.TheVariants.{First, Second}
 use Rattle.refusal.specs.declared.Refusal.{Refusal}
@@ -12,7 +11,7 @@ use Rattle.refusal.specs.declared.Refusal.TheVariants.{PortCount, CellCount, Lin
 use Rattle.trace.specs.declared.events.Event.{Event}
 use Rattle.trace.specs.declared.events.Event.TheVariants.{Arrival, Tick}
 use Rattle.trace.specs.Field.{greatest, field, blank, number_in, Shows}
-use Rattle.trace.specs.Line.{line_of, field_at, shaped, unless, within, numbers_in, with_both, opens, in_range, head_in, arrival_in, tick_in, event_in, IsHead, IsEvent, ReadsBack}
+use Rattle.trace.specs.Line.{line_of, field_at, shaped, unless, within, numbers_in, with_both, in_range, head_in, arrival_in, tick_in, event_in, IsHead, IsEvent, ReadsBack}
 use Rattle.trace.proofs.Fields.{length-field, number_in_field, shows_number}
 use Rattle.trace.proofs.Columns.{framed, shaped_framed, framed_shaped, framed_first, framed_second, line_framed}
 
@@ -143,10 +142,6 @@ event_from s e ok =
     (cases_Bool (eqb c 84)))
     (cases_Bool (eqb c 65))
 
--- the answer to an event, by what was found in the line
-abbrev pub event_by : Bool → Bool → Bool → Result Event Refusal → Result Event Refusal → Result Event Refusal
-event_by shape is-a is-t arrival tick = unless shape LineShape (cond is-a arrival (cond is-t tick (Err Letter)))
-
 from_event : (s : List ℕ) (e : Event) → IsEvent s e → event_in s ≡ Ok e
 unfolding event_in
 from_event s (Arrival port tag) (p, q, is) =
@@ -158,30 +153,9 @@ from_event s Tick is = ap event_in is
 pub event_back : (s : List ℕ) → ReadsBack IsEvent s (event_in s)
 event_back s e = (event_from s e, from_event s e)
 
--- an answer r that goes by what was found in the line is that of the definition d, and reads back what was written
-abbrev Answer : {X : Type 0} → (List ℕ → X → Type 0) → List ℕ → Result X Refusal → Result X Refusal → Type 0
-Answer Is s d r = (r ≡ d) × ReadsBack Is s r
+-- so does an answer that is that of the definition
+pub heads_back : (s : List ℕ) (r : Result (ℕ × ℕ × ℕ) Refusal) → r ≡ head_in s → ReadsBack IsHead s r
+heads_back s r e = subst (ReadsBack IsHead s) (sym e) (head_back s)
 
-answered : {X : Type 0} (Is : List ℕ → X → Type 0) (s : List ℕ) (d r : Result X Refusal) → ReadsBack Is s d → r ≡ d → Answer Is s d r
-answered Is s d r back is = (is, subst (ReadsBack Is s) (sym is) back)
-
-pub head_answer : (s : List ℕ) {shape letter : Bool} {numbers : Result (ℕ × ℕ) Refusal} (r : Result (ℕ × ℕ × ℕ) Refusal) → shape ≡ shaped s → letter ≡ opens (get_or s 0 0) → numbers ≡ numbers_in s → r ≡ head_by shape letter numbers (get_or s 0 0) → Answer IsHead s (head_in s) r
-unfolding head_in
-head_answer s r shape letter numbers e =
-    answered IsHead s (head_in s) r (head_back s) (e ∙ (λ i. head_by (shape i) (letter i) (numbers i) (get_or s 0 0)))
-
-pub event_answer : (s : List ℕ) {shape is-a is-t : Bool} (r : Result Event Refusal) → shape ≡ shaped s → is-a ≡ eqb (get_or s 0 0) 65 → is-t ≡ eqb (get_or s 0 0) 84 → r ≡ event_by shape is-a is-t (arrival_in s) (tick_in s) → Answer IsEvent s (event_in s) r
-unfolding event_in
-event_answer s r shape is-a is-t e =
-    answered IsEvent s (event_in s) r (event_back s) (e ∙ (λ i. event_by (shape i) (is-a i) (is-t i) (arrival_in s) (tick_in s)))
-
--- the tests on a letter and on a number
-pub does_open : (c : ℕ) → (c ≡ 76) ⊎ (c ≡ 79) ⊎ (c ≡ 82) → true ≡ opens c
-does_open c h = grind (arith, nat_tests)
-
-pub not_opens : (c : ℕ) → (c ≡ 76 → ⊥) → (c ≡ 82 → ⊥) → (c ≡ 79 → ⊥) → false ≡ opens c
-not_opens c l r o = sym (or_from _ _ (ne_eqb _ _ l) (or_from _ _ (ne_eqb _ _ r) (ne_eqb _ _ o)))
-
-pub not_in_range : (low high n : ℕ) → (n < low) ⊎ ((low ≤ n) × (high < n)) → in_range low high n ≡ false
-not_in_range low high n (inl below) = and_left _ _ (lt-leb _ _ below)
-not_in_range low high n (inr (enough, above)) = and_right _ _ (lt-leb _ _ above)
+pub events_back : (s : List ℕ) (r : Result Event Refusal) → r ≡ event_in s → ReadsBack IsEvent s r
+events_back s r e = subst (ReadsBack IsEvent s) (sym e) (event_back s)

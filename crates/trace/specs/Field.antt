@@ -4,7 +4,7 @@
 --     number_in bs    the number whose field the octets bs are, if there is one
 --     Shows bs r      r is that number, in terms of `field` alone
 --     FieldsApart     no two numbers have one field
-use Rattle.std.specs.Prelude.{◌≡◌, ℕ, ◌+◌, ◌-◌, ◌*◌, ◌<◌, ◌≤◌, cond, ◌&&◌, List, [], ◌∷◌, ◌++◌, length, replicate, Some, None, decimal, Option, ◌==◌, ◌≢◌, nat_le}
+use Rattle.std.specs.Prelude.{◌≡◌, ℕ, ◌+◌, ◌-◌, ◌*◌, ◌≤◌, cond, ◌&&◌, List, [], ◌∷◌, ◌++◌, length, replicate, Some, None, decimal, Option, ◌==◌, ◌≢◌, nat_le}
 use Rattle.std.specs.Str.{bytes_eq}
 
 -- the greatest number that a field can show
@@ -40,8 +40,3 @@ Shows bs None = (n : ℕ) → n ≤ greatest → bs ≢ field n
 -- different numbers have different fields
 abbrev pub FieldsApart : Type 0
 FieldsApart = (m n : ℕ) → m ≤ greatest → n ≤ greatest → field m ≡ field n → m ≡ n
-
--- r is the value of the octet c as a decimal digit; None, where it is no digit
-abbrev pub IsDigit : ℕ → Option ℕ → Type 0
-IsDigit c (Some d) = (d < 10) × (c ≡ 48 + d)
-IsDigit c None = (d : ℕ) → d < 10 → c ≢ 48 + d

@@ -13,6 +13,7 @@ use Rattle.trace.specs.declared.events.Event.TheVariants.{Arrival, Tick}
 use Rattle.trace.specs.declared.damage.Damage.{Damage}
 use Rattle.trace.specs.declared.summary.Summary.{Summary}
 use Rattle.trace.specs.Line.{unless, head_in, event_in}
+use Rattle.trace.specs.Rule.{letter_of}
 
 -- an arrival is for one of the ports 0 to n - 1
 abbrev pub for_ports : ℕ → Result Event Refusal → Result Event Refusal
@@ -56,7 +57,7 @@ how_many kind ls = count_by (λ s. kind (event_in s)) ls
 
 -- the head is read, no line is refused, and the counts are those of the lines after the head, which are drop 1 ls
 pub record Whole (ls : List (List ℕ)) (s : Summary) : Type 0 where
-  pub head : head_in (slice_index_or ls 0 []) ≡ Ok (s.rule, s.ports, s.cells)
+  pub head : head_in (slice_index_or ls 0 []) ≡ Ok (letter_of s.rule, s.ports, s.cells)
   pub taken : (i : ℕ) → i < length ls → refusal_at ls i ≡ None
   pub lines : s.lines ≡ length ls
   pub arrivals : s.arrivals ≡ how_many is_arrival (drop 1 ls)

@@ -1,8 +1,9 @@
 // field.rt — the number in a field of eight octets.
 ghost use Rattle.std.specs.Prelude.{◌≡◌};
-ghost use Rattle.trace.specs.Field.{number_in, Shows, FieldsApart, IsDigit};
+ghost use Rattle.trace.specs.Field.{number_in, Shows, FieldsApart};
 
 // The number whose field the octets are; None where they are the field of no number.
+#[tactic(auto, using(crate::proofs::Reading::space_at, crate::proofs::Reading::digit_more))]
 pub fn number(octets: &[u8]) -> Option<u32>
     ensures value { result ≡ number_in octets.now }
     ensures law { Shows octets.now result }
@@ -11,31 +12,17 @@ pub fn number(octets: &[u8]) -> Option<u32>
     if octets.len() != 8 {
         return None;
     }
-    let mut value: u32 = 0;
-    let mut begun = false;
+    let mut value: Option<u32> = None;
     for octet in octets {
-        if *octet == b' ' && !begun {
+        if *octet == b' ' && value.is_none() {
             continue;
         }
         // Nothing stands after a zero that comes first.
-        if begun && value == 0 {
+        if value == Some(0) {
             return None;
         }
-        let Some(digit) = digit_of(*octet) else {
-            return None;
-        };
-        value = value * 10 + digit;
-        begun = true;
+        let digit = char::from(*octet).to_digit(10)?;
+        value = Some(value.unwrap_or(0) * 10 + digit);
     }
-    if begun { Some(value) } else { None }
-}
-
-// The value of a decimal digit; None where the octet is none.
-fn digit_of(octet: u8) -> Option<u32>
-    ensures { IsDigit octet result }
-{
-    match octet {
-        b'0'..=b'9' => Some((octet - b'0') as u32),
-        _ => None,
-    }
+    value
 }

@@ -7,7 +7,7 @@ ghost use Rattle.trace.specs.Inspection.{event_for, Inspected, AddsUp};
 use crate::damage::Damage;
 use crate::events::Event;
 use crate::lines::cut;
-use crate::reader::{event, head};
+use crate::reader::{event, opening};
 use crate::summary::Summary;
 use refusal::Refusal;
 
@@ -17,29 +17,24 @@ pub fn inspect(text: &[u8]) -> Result<Summary, Damage>
     ensures answer { Inspected (lines_of text.now) result }
     ensures law { IfOk result AddsUp }
 {
-    let (first, mut rest) = cut(text);
-    let mut summary = match head(first) {
-        Ok((rule, ports, cells)) => Summary {
-            rule,
-            ports,
-            cells,
-            lines: 1,
-            arrivals: 0,
-            ticks: 0,
-            tally: [0; 256],
-        },
-        Err(refusal) => return Err(Damage { line: 1, refusal }),
+    let (first, rest) = cut(text);
+    let (rule, ports, cells) = opening(first).map_err(|refusal| Damage { line: 1, refusal })?;
+    let mut summary = Summary {
+        rule,
+        ports,
+        cells,
+        lines: 1,
+        arrivals: 0,
+        ticks: 0,
+        tally: [0; 256],
     };
-    while !rest.is_empty() {
-        let (line, after) = cut(rest);
-        match event_for(summary.ports, line) {
-            Ok(event) => summary.count(event),
-            Err(refusal) => return Err(Damage {
-                line: summary.lines + 1,
-                refusal,
-            }),
-        }
-        rest = after;
+    for line in rest.split_inclusive(|octet| *octet == b'\n') {
+        let number = summary.lines + 1;
+        let event = event_for(ports, line).map_err(|refusal| Damage {
+            line: number,
+            refusal,
+        })?;
+        summary.count(event);
     }
     Ok(summary)
 }

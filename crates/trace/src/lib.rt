@@ -7,6 +7,7 @@ mod field;
 mod inspection;
 mod lines;
 mod reader;
+mod rule;
 mod summary;
 #[cfg(test)]
 mod tests;
@@ -17,4 +18,5 @@ pub use field::number;
 pub use inspection::inspect;
 pub use lines::cut;
 pub use reader::{event, head};
+pub use rule::Rule;
 pub use summary::Summary;

@@ -1,8 +1,9 @@
 // lines.rt — cutting a text into its lines.
-ghost use Rattle.std.specs.Prelude.{◌≡◌, ◌≤◌, length, take, drop};
+ghost use Rattle.std.specs.Prelude.{◌≡◌};
 ghost use Rattle.trace.specs.Text.{line_length, Cut, LosesNothing};
 
 // The next line of the text, through its octet 10, and the rest; without an octet 10 all the text is the line.
+#[tactic(auto, using(crate::proofs::Cutting::line_fits, crate::proofs::Cutting::lines_kept))]
 pub fn cut(text: &[u8]) -> (&[u8], &[u8])
     ensures places { Cut text.now result.0.now result.1.now }
     ensures law { LosesNothing text.now result.0.now result.1.now }
@@ -10,16 +11,10 @@ pub fn cut(text: &[u8]) -> (&[u8], &[u8])
     text.split_at(line_length(text))
 }
 
-// How many octets the next line has.
+// How many octets the next line has; 0 where there is none.
 fn line_length(text: &[u8]) -> usize
-    ensures value { result ≡ line_length text.now }
-    ensures bound { result ≤ length text.now }
-    ensures law { LosesNothing text.now (take result text.now) (drop result text.now) }
+    ensures { result ≡ line_length text.now }
 {
-    for (i, octet) in text.iter().enumerate() {
-        if *octet == b'\n' {
-            return i + 1;
-        }
-    }
-    text.len()
+    let mut lines = text.split_inclusive(|octet| *octet == b'\n');
+    lines.next().map_or(0, |line| line.len())
 }

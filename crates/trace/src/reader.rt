@@ -1,43 +1,55 @@
 // reader.rt — what a line of a trace says.
-ghost use Rattle.std.specs.Prelude.{◌≡◌, length};
-ghost use Rattle.trace.specs.Field.{blank};
-ghost use Rattle.trace.specs.Line.{shaped, numbers_in, head_in, arrival_in, tick_in, event_in, IsHead, IsEvent, ReadsBack};
+ghost use Rattle.std.specs.Prelude.{◌≡◌, Ok};
 ghost use Rattle.std.specs.Str.{bytes_eq};
+ghost use Rattle.refusal.specs.declared.Refusal.TheVariants.{Field};
+ghost use Rattle.trace.specs.Field.{blank, number_in};
+ghost use Rattle.trace.specs.Line.{unless, within, numbers_in, head_in, arrival_in, tick_in, event_in, IsHead, IsEvent, ReadsBack};
+ghost use Rattle.trace.specs.Steps.{Blank, Opened, Shaped, field_of};
 
 use crate::events::Event;
 use crate::field::number;
+use crate::rule::Rule;
 use refusal::{FieldPlace, Refusal};
 
 // The letter of the tie rule, the ports and the cells that the line opens a trace with.
+#[tactic(auto, using(crate::proofs::Verdicts::heads_back))]
 pub fn head(line: &[u8]) -> Result<(u8, usize, usize), Refusal>
     ensures answer { result ≡ head_in line.now }
     ensures law { ReadsBack IsHead line.now result }
 {
-    if !is_shaped(line) {
-        return Err(Refusal::LineShape);
-    }
-    match line[0] {
-        b'L' | b'R' | b'O' => {}
+    let (rule, ports, cells) = opening(line)?;
+    Ok((rule.letter(), ports, cells))
+}
+
+// The tie rule, the ports and the cells that the line opens a trace with.
+#[tactic(auto, unfolding(crate::specs::Line::head_in))]
+pub(crate) fn opening(line: &[u8]) -> Result<(Rule, usize, usize), Refusal>
+    ensures { Opened line.now result }
+{
+    let line = shaped(line)?;
+    let rule = match line[0] {
+        b'L' => Rule::LowestPort,
+        b'R' => Rule::Rotating,
+        b'O' => Rule::OldestHead,
         _ => return Err(Refusal::Letter),
-    }
+    };
     let (ports, cells) = numbers(line)?;
-    if ports < 1 || ports > 256 {
+    if !(1..=256).contains(&ports) {
         return Err(Refusal::PortCount);
     }
-    if cells < 1 || cells > 4096 {
+    if !(1..=4096).contains(&cells) {
         return Err(Refusal::CellCount);
     }
-    Ok((line[0], ports as usize, cells as usize))
+    Ok((rule, ports as usize, cells as usize))
 }
 
 // The arrival or the tick that the line is.
+#[tactic(auto, using(crate::proofs::Verdicts::events_back), unfolding(crate::specs::Line::event_in))]
 pub fn event(line: &[u8]) -> Result<Event, Refusal>
     ensures answer { result ≡ event_in line.now }
     ensures law { ReadsBack IsEvent line.now result }
 {
-    if !is_shaped(line) {
-        return Err(Refusal::LineShape);
-    }
+    let line = shaped(line)?;
     match line[0] {
         b'A' => arrival(line),
         b'T' => tick(line),
@@ -45,30 +57,18 @@ pub fn event(line: &[u8]) -> Result<Event, Refusal>
     }
 }
 
-// Whether the line is 18 octets of which the last is octet 10.
-fn is_shaped(line: &[u8]) -> bool
-    ensures { result ≡ shaped line.now }
+// The line as its 18 octets, of which the last is octet 10.
+fn shaped(line: &[u8]) -> Result<&[u8; 18], Refusal>
+    ensures { Shaped line.now result }
 {
-    line.len() == 18 && line[17] == b'\n'
-}
-
-// The numbers in the two fields of the line.
-fn numbers(line: &[u8]) -> Result<(u32, u32), Refusal>
-    requires { length line.now ≡ 18 }
-    ensures { result ≡ numbers_in line.now }
-{
-    let Some(first) = number(&line[1..9]) else {
-        return Err(Refusal::Field(FieldPlace::First));
-    };
-    let Some(second) = number(&line[9..17]) else {
-        return Err(Refusal::Field(FieldPlace::Second));
-    };
-    Ok((first, second))
+    match line.as_array() {
+        Some(octets) if octets[17] == b'\n' => Ok(octets),
+        _ => Err(Refusal::LineShape),
+    }
 }
 
 // An A line: a port and a tag.
-fn arrival(line: &[u8]) -> Result<Event, Refusal>
-    requires { length line.now ≡ 18 }
+fn arrival(line: &[u8; 18]) -> Result<Event, Refusal>
     ensures { result ≡ arrival_in line.now }
 {
     let (port, tag) = numbers(line)?;
@@ -79,21 +79,47 @@ fn arrival(line: &[u8]) -> Result<Event, Refusal>
 }
 
 // A T line: both fields blank.
-fn tick(line: &[u8]) -> Result<Event, Refusal>
-    requires { length line.now ≡ 18 }
+fn tick(line: &[u8; 18]) -> Result<Event, Refusal>
     ensures { result ≡ tick_in line.now }
 {
-    if !is_blank(&line[1..9]) {
-        return Err(Refusal::Field(FieldPlace::First));
-    }
-    if !is_blank(&line[9..17]) {
-        return Err(Refusal::Field(FieldPlace::Second));
-    }
+    blank_in(line, FieldPlace::First)?;
+    blank_in(line, FieldPlace::Second)?;
     Ok(Event::Tick)
 }
 
-fn is_blank(octets: &[u8]) -> bool
-    ensures { result ≡ bytes_eq octets.now blank }
+// The numbers in the two fields of the line.
+fn numbers(line: &[u8; 18]) -> Result<(u32, u32), Refusal>
+    ensures { result ≡ numbers_in line.now }
 {
-    octets == b"        ".as_slice()
+    let first = number_in(line, FieldPlace::First)?;
+    let second = number_in(line, FieldPlace::Second)?;
+    Ok((first, second))
+}
+
+// The number in a field of the line.
+fn number_in(line: &[u8; 18], place: FieldPlace) -> Result<u32, Refusal>
+    ensures { result ≡ within (number_in (field_of place line.now)) place Ok }
+{
+    number(field(line, place)).ok_or(Refusal::Field(place))
+}
+
+// That a field of the line is blank.
+fn blank_in(line: &[u8; 18], place: FieldPlace) -> Result<(), Refusal>
+    ensures { Blank place line.now result }
+{
+    if field(line, place) == b"        ".as_slice() {
+        Ok(())
+    } else {
+        Err(Refusal::Field(place))
+    }
+}
+
+// The eight octets of a field of the line.
+fn field(line: &[u8; 18], place: FieldPlace) -> &[u8]
+    ensures { result.now ≡ field_of place line.now }
+{
+    match place {
+        FieldPlace::First => &line[1..9],
+        FieldPlace::Second => &line[9..17],
+    }
 }

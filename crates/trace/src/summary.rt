@@ -1,10 +1,13 @@
 // summary.rt — what is in a trace.
 ghost use Rattle.std.specs.Prelude.{◌≡◌, slice_index};
+ghost use Rattle.trace.specs.Rule.{letter_of};
+
+use crate::rule::Rule;
 
 // What is in a trace whose every line is taken.
-#[derive(Clone, Copy, Debug)]
+#[derive(Clone, Copy, PartialEq, Eq, Debug)]
 pub struct Summary {
-    pub(crate) rule: u8,
+    pub(crate) rule: Rule,
     pub(crate) ports: usize,
     pub(crate) cells: usize,
     pub(crate) lines: usize,
@@ -17,9 +20,16 @@ pub struct Summary {
 impl Summary {
     // The letter of the tie rule, the ports and the cells that the trace opens with.
     pub fn head(&self) -> (u8, usize, usize)
-        ensures { result ≡ (self.now.rule, self.now.ports, self.now.cells) }
+        ensures { result ≡ (letter_of self.now.rule, self.now.ports, self.now.cells) }
     {
-        (self.rule, self.ports, self.cells)
+        (self.rule.letter(), self.ports, self.cells)
+    }
+
+    // The tie rule that the trace asks for.
+    pub fn rule(&self) -> Rule
+        ensures { result ≡ self.now.rule }
+    {
+        self.rule
     }
 
     // The lines, the head among them.
@@ -41,10 +51,17 @@ impl Summary {
         self.ticks
     }
 
+    // The arrivals for each port, from port 0 to port 255.
+    pub fn arrivals_by_port(&self) -> &[usize; 256]
+        ensures { result.now ≡ self.now.tally }
+    {
+        &self.tally
+    }
+
     // The arrivals for this port; 0 for a port above 255.
     pub fn arrivals_for(&self, port: usize) -> usize
         ensures { result ≡ slice_index self.now.tally port }
     {
-        if port < 256 { self.tally[port] } else { 0 }
+        self.tally.get(port).copied().unwrap_or(0)
     }
 }

@@ -141,6 +141,7 @@ fn whole_trace(rt: HostRuntime) -> Result<(), Fail> {
         return Err(Fail::new("refused"));
     };
     assert_eq!(rt; summary.head(), (b'L', 2, 3));
+    assert_eq!(rt; summary.rule(), Rule::LowestPort);
     assert_eq!(rt;
         (summary.lines(), summary.arrivals(), summary.ticks()),
         (9, 7, 1)
@@ -157,14 +158,30 @@ fn whole_trace(rt: HostRuntime) -> Result<(), Fail> {
         (summary.arrivals_for(255), summary.arrivals_for(256)),
         (0, 0)
     );
+    let by_port = summary.arrivals_by_port();
+    assert_eq!(rt; (by_port[0], by_port[1], by_port[2]), (4, 3, 0));
+    Ok(())
+}
+
+#[test]
+fn rules(rt: HostRuntime) -> Result<(), Fail> {
+    let table = [
+        (*b"L       2       3\n", Rule::LowestPort, "lowest port"),
+        (*b"R       2       3\n", Rule::Rotating, "rotating"),
+        (*b"O       2       3\n", Rule::OldestHead, "oldest head"),
+    ];
+    for (line, expected, words) in table {
+        assert_eq!(rt; inspect(&line).map(|summary| summary.rule()), Ok(expected));
+        assert_eq!(rt; line[0], expected.letter());
+        let name = expected.to_string(rt.alloc())?;
+        assert!(rt; name.as_str() == words);
+    }
     Ok(())
 }
 
 fn first_refused(text: &[u8]) -> Option<(usize, Refusal)> {
-    match inspect(text) {
-        Ok(_) => None,
-        Err(damage) => Some((damage.line(), damage.refusal())),
-    }
+    let damage = inspect(text).err()?;
+    Some((damage.line(), damage.refusal()))
 }
 
 #[test]

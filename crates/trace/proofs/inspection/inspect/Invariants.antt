@@ -1,9 +1,9 @@
-use Rattle.std.proofs.Common.{length}
+use Rattle.std.proofs.Common.{◌≡◌}
 use Rattle.trace.proofs.Inspecting.{Sofar}
 use Rattle.trace.proofs.inspection.inspect.Given as goal
 
-abbrev pub invariant-loop-rest : goal.invariant-loop-rest
-invariant-loop-rest l = Sofar l.text l.summary l.rest
-
-abbrev pub decreases-loop-rest : goal.decreases-loop-rest
-decreases-loop-rest l = length l.rest
+abbrev pub invariant-loop-line : goal.invariant-loop-line
+invariant-loop-line l = record {
+  sofar : Sofar l.text l.summary l.line-iterator.rest.now;
+  ports : l.ports ≡ l.summary.ports;
+}

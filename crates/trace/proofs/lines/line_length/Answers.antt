@@ -1,17 +1,11 @@
-use Rattle.std.proofs.Common.{◌+◌, arith}
-use Rattle.trace.proofs.Cutting.{line_more, line_end, line_none, cuts_there}
+use Rattle.std.proofs.Common.{◌≡◌, ap, ◌∙◌, length, rules}
+use Rattle.std.specs.Option.{option_map_or}
+use Rattle.std.proofs.lemmas.List.Sorted.{answers_always}
+use Rattle.trace.specs.Text.{line_length}
+use Rattle.trace.proofs.Cutting.{next_length}
 use Rattle.trace.proofs.lines.line_length.Goals as goal
-
-pub returns-then-octet-eq10 : goal.returns-then-octet-eq10
-returns-then-octet-eq10 c =
-    let a = cuts_there c.args.text.now (c.loop-i.i + 1) (omega (arith, c.loop-i.invariant, line_end c.args.text.now c.loop-i.i (omega arith) c.if-octet-eq10.true)) in
-    record { value = a.0; bound = a.1; law = a.2 }
-
-pub loop-i-preserved : goal.loop-i-preserved
-loop-i-preserved c =
-    omega (arith, c.loop-i.invariant, line_more c.args.text.now c.loop-i.i (omega arith) c.if-octet-eq10.false)
 
 pub returns : goal.returns
 returns c =
-    let a = cuts_there c.args.text.now _ (omega (arith, c.loop-i.invariant, line_none c.args.text.now c.loop-i.i (omega arith))) in
-    record { value = a.0; bound = a.1; law = a.2 }
+    let is : c.map_or.result ≡ option_map_or (λ l. length l.now) c.next.result 0 = search rules in
+    is ∙ next_length _ _ _ _ _ _ _ (answers_always _ _ _ (λ f a r g called. search rules)) c.next.ensures.steps ∙ ap line_length c.split_inclusive-lines.ensures.rest
