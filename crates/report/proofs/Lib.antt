@@ -1,3 +1,1 @@
-pub mod Assembly
-pub mod Filling
 pub mod ReadBack

@@ -1,34 +1,31 @@
-// field.rt — writing a number as the eight octets of its field.
-ghost use Rattle.std.specs.Prelude.{◌≡◌, ◌+◌, ◌≤◌, ◌++◌, length, take, drop, Some};
-ghost use Rattle.trace.specs.Field.{greatest, field, number_in};
+// field.rt — the eight octets that show a number.
+ghost use Rattle.std.specs.Prelude.{◌≡◌, Ok, map, nat_le};
+ghost use Rattle.refusal.specs.declared.Refusal.TheVariants.{NumberTooLarge};
+ghost use Rattle.trace.specs.Field.{greatest, field};
+ghost use Rattle.trace.specs.Line.{unless};
+ghost use Rattle.report.specs.Written.{all_fit};
+
+use refusal::Refusal;
 
 // The largest number that a field can show.
-pub(crate) const LARGEST: u32 = 99_999_999;
+const LARGEST: u32 = 99_999_999;
 
-// Puts the field of n into the eight columns from `at` on.
-pub(crate) fn put_field(text: &mut [u8], at: usize, n: u32)
-    requires within { at + 8 ≤ length text.old }
-    requires fits { n ≤ greatest }
-    ensures text { text.new ≡ take at text.old ++ (field n ++ drop (at + 8) text.old) }
-    ensures law { number_in (take 8 (drop at text.new)) ≡ Some n }
+// Gives the field of n, its decimal digits at the end of eight columns. A number that no field can show is refused.
+pub(crate) fn field(n: u32) -> Result<[u8; 8], Refusal>
+    ensures answer { result ≡ unless (nat_le n greatest) NumberTooLarge (Ok (field n)) }
 {
-    let octets = field_of(n);
-    text[at..at + 8].copy_from_slice(&octets);
+    if n > LARGEST {
+        return Err(Refusal::NumberTooLarge);
+    }
+    let mut octets = [b' '; 8];
+    itoa::write_digits(u64::from(n), &mut octets, 8);
+    Ok(octets)
 }
 
-// The digits of n from the right, until none is left; the columns before them stay spaces.
-fn field_of(n: u32) -> [u8; 8]
-    requires { n ≤ greatest }
-    ensures { result ≡ field n }
+// Gives the fields of four numbers. One that is too large refuses them all.
+pub(crate) fn fields(numbers: [u32; 4]) -> Result<[[u8; 8]; 4], Refusal>
+    ensures answer { result ≡ unless (all_fit numbers) NumberTooLarge (Ok (map field numbers)) }
 {
-    let mut octets = [b' '; 8];
-    let mut rest = n;
-    for column in (0..8).rev() {
-        octets[column] = b'0' + (rest % 10) as u8;
-        rest /= 10;
-        if rest == 0 {
-            break;
-        }
-    }
-    octets
+    let [a, b, c, d] = numbers;
+    Ok([field(a)?, field(b)?, field(c)?, field(d)?])
 }

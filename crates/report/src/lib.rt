@@ -2,7 +2,6 @@
 #![tactic(auto)]
 
 mod field;
-mod line;
 #[cfg(test)]
 mod tests;
 mod writer;

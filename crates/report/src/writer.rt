@@ -1,36 +1,37 @@
 // writer.rt — the calls that write at the start of a text space and answer how many octets they wrote.
-ghost use Rattle.std.specs.Prelude.{◌≡◌, ◌+◌, ◌*◌, ◌≤◌, true, [], ◌∷◌, length, is_ok, slice_index};
+ghost use Rattle.std.specs.Prelude.{◌≡◌, ℕ, ◌+◌, ◌*◌, ◌≤◌, true, List, [], ◌∷◌, ◌++◌, length, map, Ok, is_ok, nat_le};
+ghost use Rattle.std.specs.List.{flat_map};
+ghost use Rattle.refusal.specs.declared.Refusal.TheVariants.{ShortText};
 ghost use Rattle.trace.specs.Field.{field};
-ghost use Rattle.trace.specs.Line.{line_of};
-ghost use Rattle.report.specs.Written.{answer_of, after, NumberBack, FieldsBack, HeadBack};
+ghost use Rattle.trace.specs.Line.{line_of, unless};
+ghost use Rattle.report.specs.Written.{all_fit, answer_of, after, NumberBack, FieldsBack, HeadBack};
 
-use crate::field::{LARGEST, put_field};
-use crate::line::{all_fit, put_line};
+use crate::field::{field, fields};
 use refusal::Refusal;
 
 // Writes the field of n: 8 octets. It asks for no more space than that, since a field is a part of a line.
+#[tactic(auto, using(crate::proofs::ReadBack::number_back))]
 pub fn write_number(text: &mut [u8], n: u32) -> Result<usize, Refusal>
     ensures answer { result ≡ answer_of (n ∷ []) 8 8 text.old }
     ensures text { text.new ≡ after result (field n) text.old }
     ensures law { is_ok result ≡ true → NumberBack n text.new }
 {
-    if n > LARGEST {
-        return Err(Refusal::NumberTooLarge);
-    }
+    let octets = field(n)?;
     if text.len() < 8 {
         return Err(Refusal::ShortText);
     }
-    put_field(text, 0, n);
+    text[..8].copy_from_slice(&octets);
     Ok(8)
 }
 
 // Writes a report line of four numbers: 34 octets.
+#[tactic(auto, using(crate::proofs::ReadBack::fields_joined))]
 pub fn write_line(text: &mut [u8], letter: u8, numbers: [u32; 4]) -> Result<usize, Refusal>
     ensures answer { result ≡ answer_of numbers 34 34 text.old }
     ensures text { text.new ≡ after result (line_of letter numbers) text.old }
     ensures law { is_ok result ≡ true → FieldsBack numbers text.new }
 {
-    write(text, letter, &numbers)
+    write(text, letter, &fields(numbers)?)
 }
 
 // Writes the head line: 18 octets, in a text space that has room for any line of a report.
@@ -39,7 +40,7 @@ pub fn write_head(text: &mut [u8], letter: u8, ports: u32, cells: u32) -> Result
     ensures text { text.new ≡ after result (line_of letter (ports ∷ cells ∷ [])) text.old }
     ensures law { is_ok result ≡ true → HeadBack letter ports cells text.new }
 {
-    write(text, letter, &[ports, cells])
+    write(text, letter, &[field(ports)?, field(cells)?])
 }
 
 // Writes the X line (88 is the octet X), which says why a trace was not read to its end: 34 octets.
@@ -54,23 +55,23 @@ pub fn write_refusal(
     ensures text { text.new ≡ after result (line_of 88 (line ∷ refusal ∷ column ∷ period ∷ [])) text.old }
     ensures law { is_ok result ≡ true → FieldsBack (line ∷ refusal ∷ column ∷ period ∷ []) text.new }
 {
-    write(text, b'X', &[line, refusal, column, period])
+    write_line(text, b'X', [line, refusal, column, period])
 }
 
-// Writes the line of the letter and the numbers, of which there are at most four.
-fn write(text: &mut [u8], letter: u8, numbers: &[u32]) -> Result<usize, Refusal>
-    requires { length numbers.now ≤ 4 }
-    ensures answer { result ≡ answer_of numbers.now 34 (8 * length numbers.now + 2) text.old }
-    ensures text { text.new ≡ after result (line_of letter numbers.now) text.old }
-    ensures fields { is_ok result ≡ true → FieldsBack numbers.now text.new }
-    ensures head { is_ok result ≡ true → length numbers.now ≡ 2 → HeadBack letter (slice_index numbers.now 0) (slice_index numbers.now 1) text.new }
+// Writes the line of the letter and the fields, of which there are at most four.
+fn write(text: &mut [u8], letter: u8, fields: &[[u8; 8]]) -> Result<usize, Refusal>
+    requires { length fields.now ≤ 4 }
+    ensures answer { result ≡ unless (nat_le 34 (length text.old)) ShortText (Ok (8 * length fields.now + 2)) }
+    ensures text { text.new ≡ after result (letter ∷ (flat_map (λ octets. octets) fields.now ++ 10 ∷ [])) text.old }
+    ensures fields { (ns : List ℕ) → all_fit ns ≡ true → fields.now ≡ map field ns → is_ok result ≡ true → FieldsBack ns text.new }
+    ensures head { (ports cells : ℕ) → fields.now ≡ map field (ports ∷ cells ∷ []) → is_ok result ≡ true → HeadBack letter ports cells text.new }
 {
-    if !all_fit(numbers) {
-        return Err(Refusal::NumberTooLarge);
-    }
     if text.len() < 34 {
         return Err(Refusal::ShortText);
     }
-    put_line(text, letter, numbers);
-    Ok(8 * numbers.len() + 2)
+    let columns = fields.as_flattened();
+    text[0] = letter;
+    text[1..1 + columns.len()].copy_from_slice(columns);
+    text[1 + columns.len()] = b'\n';
+    Ok(columns.len() + 2)
 }
