@@ -22,6 +22,7 @@ fn main(rt: HostRuntime) -> anyhow::Result<()> {
     Ok(())
 }
 
+// The page is laid out here and not by the types: another program may show them in another way.
 fn print_summary(rt: &impl Print, summary: &Summary) -> io::Result<()> {
     let (letter, ports, cells) = summary.head();
     println!(rt; "rule      {}, {}", char::from(letter), summary.rule())?;

@@ -24,7 +24,7 @@ pub fn write_number(text: &mut [u8], n: u32) -> Result<usize, Refusal>
     Ok(8)
 }
 
-// Writes a report line of four numbers: 34 octets.
+// Writes a report line of four numbers: 34 octets. Which letter belongs to which line is for the caller to know.
 #[tactic(auto, using(crate::proofs::ReadBack::fields_joined))]
 pub fn write_line(text: &mut [u8], letter: u8, numbers: [u32; 4]) -> Result<usize, Refusal>
     ensures answer { result ≡ answer_of numbers 34 34 text.old }
@@ -43,7 +43,8 @@ pub fn write_head(text: &mut [u8], letter: u8, ports: u32, cells: u32) -> Result
     write(text, letter, &[field(ports)?, field(cells)?])
 }
 
-// Writes the X line (88 is the octet X), which says why a trace was not read to its end: 34 octets.
+// Writes the X line (88 is the octet X), which says why a trace was not read to its end: 34 octets. All four
+// are numbers that the caller has, a refusal by its number and its column.
 pub fn write_refusal(
     text: &mut [u8],
     line: u32,

@@ -11,7 +11,8 @@ use crate::field::number;
 use crate::rule::Rule;
 use refusal::{FieldPlace, Refusal};
 
-// The letter of the tie rule, the ports and the cells that the line opens a trace with.
+// The letter of the tie rule, the ports and the cells that the line opens a trace with. The letter is the octet that
+// stands in the line, as a report's head takes it.
 #[tactic(auto, using(crate::proofs::Verdicts::heads_back))]
 pub fn head(line: &[u8]) -> Result<(u8, usize, usize), Refusal>
     ensures answer { result ≡ head_in line.now }

@@ -13,12 +13,12 @@ pub struct Summary {
     pub(crate) lines: usize,
     pub(crate) arrivals: usize,
     pub(crate) ticks: usize,
-    // the arrivals of each port
+    // the arrivals of each port, in a table: reading a trace takes no memory, so it cannot run out of it
     pub(crate) tally: [usize; 256],
 }
 
 impl Summary {
-    // The letter of the tie rule, the ports and the cells that the trace opens with.
+    // What `head` answers to the first line: the letter of the tie rule, the ports and the cells.
     pub fn head(&self) -> (u8, usize, usize)
         ensures { result ≡ (letter_of self.now.rule, self.now.ports, self.now.cells) }
     {
