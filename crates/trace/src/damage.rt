@@ -2,6 +2,8 @@
 ghost use Rattle.std.specs.Prelude.{◌≡◌};
 
 use refusal::Refusal;
+use std::error::Error;
+use std::fmt;
 
 // The first line of a trace that is refused.
 #[derive(Clone, Copy, PartialEq, Eq, Debug)]
@@ -24,3 +26,12 @@ impl Damage {
         self.refusal
     }
 }
+
+// The line and the refusal in words, for a person.
+impl fmt::Display for Damage {
+    fn fmt<W: fmt::Write>(&self, f: &mut fmt::Formatter<W>) -> fmt::Result {
+        write!(f, "line {}: {}", self.line, self.refusal)
+    }
+}
+
+impl Error for Damage {}

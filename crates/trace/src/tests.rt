@@ -185,6 +185,17 @@ fn first_refused(text: &[u8]) -> Option<(usize, Refusal)> {
 }
 
 #[test]
+fn damage_in_words(rt: HostRuntime) -> Result<(), Fail> {
+    let damage = inspect(b"L       2       3\nA       2       0\n").err();
+    let words = damage.map(|damage| damage.to_string(rt.alloc()));
+    let Some(words) = words else {
+        return Err(Fail::new("not refused"));
+    };
+    assert!(rt; words?.as_str() == "line 2: the port is at or above the number of ports");
+    Ok(())
+}
+
+#[test]
 fn damaged_traces(rt: HostRuntime) {
     // the text of examples/damaged.trace
     let damaged =
