@@ -12,17 +12,17 @@ use tie::{Candidate, NO_PORT, TieRule, that_count};
 mod tests;
 
 // The rule with the letter H. It has no state.
-#[derive(Clone, Copy)]
+#[derive(Clone, Copy, PartialEq, Eq, Debug)]
 pub struct HighestPort;
 
 impl TieRule for HighestPort {
     const LETTER: u8 = b'H';
 
+    ghost LETTER = { 72 };
+
     ghost picks = { highest };
 
     ghost after = { λ rule _. rule };
-
-    ghost letter = { 72 };
 
     ghost lawful = { picked_lawful (λ rule cs. from_the_top) };
 
@@ -31,21 +31,13 @@ impl TieRule for HighestPort {
     }
 
     fn told(&mut self, _port: usize) {}
-
-    fn report_letter() -> u8 {
-        Self::LETTER
-    }
 }
 
 // The highest of the marked candidates that count.
 fn highest_marked(candidates: &[Candidate]) -> Option<usize>
     ensures { result ≡ least_marked from_the_top candidates.now }
 {
-    let mut best: Option<usize> = None;
-    for (port, candidate) in that_count(candidates).iter().enumerate() {
-        if candidate.is_marked() {
-            best = Some(port);
-        }
-    }
-    best
+    that_count(candidates)
+        .iter()
+        .rposition(Candidate::is_marked)
 }

@@ -1,5 +1,5 @@
--- The marked port with the smallest key: that `least_marked` is it, that there is just one, and that a loop which keeps the best so far finds it. Assumes nothing.
-use Rattle.std.specs.Prelude.{◌≡◌, ℕ, zero, suc, ◌+◌, ◌<◌, ◌≤◌, Bool, true, false, cond, List, [], ◌∷◌, ◌++◌, length, Some, None, fold, filter, Option, ◌≢◌, nat_lt, slice_index_or, refl}
+-- The marked port with the smallest key: `least_marked` is it, so a rule that picks by a key keeps the law. Assumes nothing.
+use Rattle.std.specs.Prelude.{◌≡◌, ℕ, zero, suc, ◌+◌, ◌<◌, ◌≤◌, Bool, true, false, cond, List, [], ◌∷◌, ◌++◌, length, Some, None, fold, filter, Option, ◌≢◌, nat_lt, refl}
 use Rattle.std.proofs.Math.Path.{sym, ap, subst}
 use Rattle.std.proofs.Common.{◌∙◌, ⊎_elim, append-nil, add-one, arith, below_more}
 use Rattle.std.specs.List.{range_with_len}
@@ -8,7 +8,7 @@ use Rattle.std.proofs.lemmas.List.FromFn.{map-range_with_len_more}
 use Rattle.std.proofs.lemmas.List.Elements.{filter-append}
 use Rattle.std.proofs.lemmas.List.{map-id, length-take, get_or_past}
 use Rattle.std.proofs.lemmas.List.Sums.{fold_push}
-use Rattle.std.proofs.lemmas.Bool.{cases_Bool, cases_lt, both_ways, ltb-true, ltb-false, eq-eqb, eqb-true, cond_both}
+use Rattle.std.proofs.lemmas.Bool.{cases_lt, both_ways, ltb-true, ltb-false, eq-eqb, eqb-true, cond_both}
 use Rattle.tie.specs.declared.candidate.Candidate.{Candidate}
 use Rattle.tie.specs.Candidates.{that_count, nobody, is_marked, stamp_of}
 use Rattle.tie.specs.Rules.{Lawful, smaller, smallest, least_marked, picked, Chosen, distance, lowest, nearest, oldest, OnlyMarked}
@@ -17,10 +17,6 @@ use Rattle.tie.specs.Rules.{Lawful, smaller, smallest, least_marked, picked, Cho
 pub refuted : (b : Bool) → (b ≢ true) → b ≡ false
 refuted true h = absurd (h refl)
 refuted false h = refl
-
--- what passes a test that every number below p fails is not below p
-pub not_below : (f : ℕ → Bool) (p : ℕ) → ((q : ℕ) → q < p → f q ≡ false) → (q : ℕ) → f q ≡ true → p ≤ q
-not_below f p fails q e = ⊎_elim (λ (l : q < p). absurd (both_ways (f q) (fails q l) e)) (λ (h : p ≤ q). h) (cases_lt q p)
 
 -- 256 candidates count at most
 pub few : (cs : List Candidate) → length (that_count cs) ≤ 256
@@ -109,7 +105,7 @@ module _ (m : ℕ → Bool) (key : ℕ → ℕ) where
       (λ e. subst (λ ps. Sofar m key (i + 1) (smallest key ps)) (sym (append-nil (ports i))) (sofar_passes i (smallest key (ports i)) before e))))
 
 -- where no port is marked, 256 is
-chosen_none : (key : ℕ → ℕ) (cs : List Candidate) → ((q : ℕ) → is_marked cs q ≢ true) → Chosen key cs 256
+pub chosen_none : (key : ℕ → ℕ) (cs : List Candidate) → ((q : ℕ) → is_marked cs q ≢ true) → Chosen key cs 256
 chosen_none key cs never = record {
   some = λ q t. absurd (never q t);
   none = λ h. refl;
@@ -117,14 +113,8 @@ chosen_none key cs never = record {
   first = λ q t k. absurd (never q t);
 }
 
--- the first marked port is the one with the smallest number
-pub chosen_lowest : (cs : List Candidate) (p : ℕ) → is_marked cs p ≡ true → ((q : ℕ) → q < p → is_marked cs q ≡ false) → Chosen (λ q. q) cs p
-chosen_lowest cs p e before =
-    let later : (q : ℕ) → is_marked cs q ≡ true → p ≤ q = not_below (is_marked cs) p before in
-    record { some = λ q t. e; none = λ h. absurd (both_ways (is_marked cs p) (h p) e); least = later; first = λ q t k. later q t }
-
 -- the best of all that count is the one that is chosen
-chosen_sofar : (key : ℕ → ℕ) (cs : List Candidate) (i : ℕ) (best : Option ℕ) → length (that_count cs) ≤ i → Sofar (is_marked cs) key i best → Chosen key cs (unwrap_or best 256)
+pub chosen_sofar : (key : ℕ → ℕ) (cs : List Candidate) (i : ℕ) (best : Option ℕ) → length (that_count cs) ≤ i → Sofar (is_marked cs) key i best → Chosen key cs (unwrap_or best 256)
 chosen_sofar key cs i None all s = chosen_none key cs (λ q t. both_ways (is_marked cs q) (s q (omega (arith, counts cs q t))) t)
 chosen_sofar key cs i (Some b) all s = record {
   some = λ q t. s.here.1;
@@ -133,53 +123,13 @@ chosen_sofar key cs i (Some b) all s = record {
   first = λ q t k. s.first q (omega (arith, counts cs q t)) t k;
 }
 
-sofar_least : (key : ℕ → ℕ) (cs : List Candidate) → Sofar (is_marked cs) key (length (that_count cs)) (least_marked key cs)
+pub sofar_least : (key : ℕ → ℕ) (cs : List Candidate) → Sofar (is_marked cs) key (length (that_count cs)) (least_marked key cs)
 unfolding least_marked ports
 sofar_least key cs = sofar_ports (is_marked cs) key (length (that_count cs))
 
-chosen_picked : (key : ℕ → ℕ) (cs : List Candidate) → Chosen key cs (picked key cs)
+-- what is picked by a key is chosen
+pub chosen_picked : (key : ℕ → ℕ) (cs : List Candidate) → Chosen key cs (picked key cs)
 chosen_picked key cs = chosen_sofar key cs (length (that_count cs)) (least_marked key cs) (omega arith) (sofar_least key cs)
-
--- at most one port is chosen
-chosen_unique : (key : ℕ → ℕ) (cs : List Candidate) (p q : ℕ) → Chosen key cs p → Chosen key cs q → p ≡ q
-chosen_unique key cs p q a b = ⊎_elim
-    (λ (e : is_marked cs p ≡ true).
-    let f : is_marked cs q ≡ true = b.some p e in
-    let x = a.least q f in
-    let y = b.least p e in
-    let same : key q ≡ key p = omega arith in
-    let v = a.first q f same in
-    let w = b.first p e (sym same) in
-    let r : p ≡ q = omega arith in r)
-    (λ (e : is_marked cs p ≡ false).
-    let h : (r : ℕ) → is_marked cs r ≡ false = λ r. refuted (is_marked cs r) (λ t. both_ways (is_marked cs p) e (a.some r t)) in
-    a.none h ∙ sym (b.none h))
-    (cases_Bool (is_marked cs p))
-
--- the answer r to a search for the marked port with the smallest key, as contracts state it
-abbrev pub Finds : (ℕ → ℕ) → List Candidate → Option ℕ → Type 0
-Finds key cs r = record { value : r ≡ least_marked key cs; law : Chosen key cs (unwrap_or r 256) }
-
--- no port is marked
-pub finds_none : (key : ℕ → ℕ) (cs : List Candidate) → ((q : ℕ) → is_marked cs q ≢ true) → Finds key cs None
-finds_none key cs never = record { value = same (least_marked key cs) (sofar_least key cs); law = chosen_none key cs never }
-  where
-    same : (o : Option ℕ) → Sofar (is_marked cs) key (length (that_count cs)) o → None ≡ o
-    same None s = refl
-    same (Some b) s = absurd (never b s.here.1)
-
--- a marked port is chosen
-pub finds_some : (key : ℕ → ℕ) (cs : List Candidate) (p : ℕ) → is_marked cs p ≡ true → Chosen key cs p → Finds key cs (Some p)
-finds_some key cs p e chosen = record { value = same (least_marked key cs) (sofar_least key cs); law = chosen }
-  where
-    same : (o : Option ℕ) → Sofar (is_marked cs) key (length (that_count cs)) o → Some p ≡ o
-    same None s = absurd (both_ways (is_marked cs p) (s p (counts cs p e)) e)
-    same (Some b) s = ap (λ (n : ℕ). Some n) (chosen_unique key cs p b chosen (chosen_sofar key cs (length (that_count cs)) (Some b) (omega arith) s))
-
--- the best of all that count was kept
-pub finds_sofar : (key : ℕ → ℕ) (cs : List Candidate) (i : ℕ) (best : Option ℕ) → length (that_count cs) ≤ i → Sofar (is_marked cs) key i best → Finds key cs best
-finds_sofar key cs i None all s = finds_none key cs (λ q t. both_ways (is_marked cs q) (s q (omega (arith, counts cs q t))) t)
-finds_sofar key cs i (Some b) all s = finds_some key cs b s.here.1 (chosen_sofar key cs i (Some b) all s)
 
 -- a rule that picks by a key keeps the law
 pub picked_lawful : {S : Type 0} (key : S → List Candidate → ℕ → ℕ) → Lawful (λ (s : S) cs. picked (key s cs) cs)
@@ -202,14 +152,3 @@ pub lawful_only : {S : Type 0} (picks : S → List Candidate → ℕ) → Lawful
 lawful_only picks law s cs p only =
     let here : is_marked cs p ≡ true = only p ∙ eq-eqb p p refl in
     eqb-true (picks s cs) p (sym (only (picks s cs)) ∙ law.some s cs p here)
-
--- what the code reads in the slice of the candidates that count
-module _ (cs counted : List Candidate) (is : counted ≡ that_count cs) where
-  pub read_marked : (p : ℕ) (b : Bool) → b ≡ (slice_index_or counted p nobody).marked → is_marked cs p ≡ b
-  read_marked p b r = sym (r ∙ ap (λ (l : List Candidate). (slice_index_or l p nobody).marked) is)
-
-  pub read_few : length counted ≤ 256
-  read_few = omega (arith, few cs, ap length is)
-
-  pub read_counts : (p : ℕ) → is_marked cs p ≡ true → p < length counted
-  read_counts p e = omega (arith, counts cs p e, ap length is)

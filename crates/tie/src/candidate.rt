@@ -1,5 +1,5 @@
 // candidate.rt — what a tie rule is told of one port.
-ghost use Rattle.std.specs.Prelude.{◌≡◌, min, false, length};
+ghost use Rattle.std.specs.Prelude.{◌≡◌, false};
 ghost use Rattle.tie.specs.Candidates.{that_count};
 
 // The most ports that a switch has, and so the most candidates that count.
@@ -43,21 +43,15 @@ impl Candidate {
     {
         Candidate {
             marked: false,
-            stamp: self.stamp,
+            ..*self
         }
     }
 }
 
 // The candidates that count: the first 256.
+#[tactic(auto, using(crate::proofs::Searching::counted_front))]
 pub fn that_count(candidates: &[Candidate]) -> &[Candidate]
     ensures value { result.now ≡ that_count candidates.now }
 {
-    &candidates[0..how_many_count(candidates)]
-}
-
-// How many of the candidates count.
-fn how_many_count(candidates: &[Candidate]) -> usize
-    ensures { result ≡ min (length candidates.now) 256 }
-{
-    candidates.len().min(MAX_PORTS)
+    &candidates[..candidates.len().min(MAX_PORTS)]
 }

@@ -1,6 +1,5 @@
 // lowest_port.rt — the rule by which the lowest marked port loses.
 ghost use Rattle.std.specs.Prelude.{◌≡◌};
-ghost use Rattle.std.specs.Option.{unwrap_or};
 ghost use Rattle.tie.specs.Rules.{least_marked, Chosen, lowest};
 ghost use Rattle.tie.specs.Picking.{lowest_lawful};
 
@@ -14,14 +13,15 @@ pub struct LowestPort;
 impl TieRule for LowestPort {
     const LETTER: u8 = b'L';
 
+    ghost LETTER = { 76 };
+
     ghost picks = { lowest };
 
     ghost after = { λ rule _. rule };
 
-    ghost letter = { 76 };
-
     ghost lawful = { lowest_lawful };
 
+    #[tactic(auto, using(crate::proofs::Searching::chosen_by))]
     fn pick(&self, candidates: &[Candidate]) -> usize
         ensures value { result ≡ lowest self.now candidates.now }
         ensures law { Chosen (λ p. p) candidates.now result }
@@ -30,21 +30,11 @@ impl TieRule for LowestPort {
     }
 
     fn told(&mut self, _port: usize) {}
-
-    fn report_letter() -> u8 {
-        Self::LETTER
-    }
 }
 
 // The lowest of the marked candidates that count.
 fn lowest_marked(candidates: &[Candidate]) -> Option<usize>
-    ensures value { result ≡ least_marked (λ p. p) candidates.now }
-    ensures law { Chosen (λ p. p) candidates.now (unwrap_or result 256) }
+    ensures { result ≡ least_marked (λ p. p) candidates.now }
 {
-    for (port, candidate) in that_count(candidates).iter().enumerate() {
-        if candidate.is_marked() {
-            return Some(port);
-        }
-    }
-    None
+    that_count(candidates).iter().position(Candidate::is_marked)
 }

@@ -1,8 +1,7 @@
 // oldest_head.rt — the rule by which the marked port with the oldest head cell loses.
-ghost use Rattle.std.specs.Prelude.{◌≡◌, ◌<◌, length, slice_index_or};
-ghost use Rattle.std.specs.Option.{unwrap_or};
-ghost use Rattle.tie.specs.Candidates.{nobody, stamp_of};
-ghost use Rattle.tie.specs.Rules.{smaller, least_marked, Chosen, oldest};
+ghost use Rattle.std.specs.Prelude.{◌≡◌};
+ghost use Rattle.tie.specs.Candidates.{stamp_of};
+ghost use Rattle.tie.specs.Rules.{least_marked, Chosen, oldest};
 ghost use Rattle.tie.specs.Picking.{oldest_lawful};
 
 use crate::candidate::{Candidate, NO_PORT, that_count};
@@ -16,14 +15,15 @@ pub struct OldestHead;
 impl TieRule for OldestHead {
     const LETTER: u8 = b'O';
 
+    ghost LETTER = { 79 };
+
     ghost picks = { oldest };
 
     ghost after = { λ rule _. rule };
 
-    ghost letter = { 79 };
-
     ghost lawful = { oldest_lawful };
 
+    #[tactic(auto, using(crate::proofs::Searching::chosen_by))]
     fn pick(&self, candidates: &[Candidate]) -> usize
         ensures value { result ≡ oldest self.now candidates.now }
         ensures law { Chosen (stamp_of candidates.now) candidates.now result }
@@ -32,39 +32,18 @@ impl TieRule for OldestHead {
     }
 
     fn told(&mut self, _port: usize) {}
-
-    fn report_letter() -> u8 {
-        Self::LETTER
-    }
 }
 
 // The first of the marked candidates that count with the smallest stamp.
 fn oldest_marked(candidates: &[Candidate]) -> Option<usize>
-    ensures value { result ≡ least_marked (stamp_of candidates.now) candidates.now }
-    ensures law { Chosen (stamp_of candidates.now) candidates.now (unwrap_or result 256) }
+    ensures { result ≡ least_marked (stamp_of candidates.now) candidates.now }
 {
-    let candidates = that_count(candidates);
-    let mut best: Option<usize> = None;
-    for port in 0..candidates.len() {
-        if !candidates[port].is_marked() {
-            continue;
+    let mut best: Option<(usize, u32)> = None;
+    for (port, candidate) in that_count(candidates).iter().enumerate() {
+        let stamp = candidate.stamp();
+        if candidate.is_marked() && best.is_none_or(|(_, oldest)| stamp < oldest) {
+            best = Some((port, stamp));
         }
-        best = match best {
-            Some(so_far) => Some(older(candidates, so_far, port)),
-            None => Some(port),
-        };
     }
-    best
-}
-
-// Of two ports the one with the smaller stamp; p where the stamps are equal.
-fn older(candidates: &[Candidate], p: usize, q: usize) -> usize
-    requires { (p < length candidates.now) × (q < length candidates.now) }
-    ensures { result ≡ smaller (λ k. (slice_index_or candidates.now k nobody).stamp) p q }
-{
-    if candidates[q].stamp() < candidates[p].stamp() {
-        q
-    } else {
-        p
-    }
+    best.map(|(port, _)| port)
 }

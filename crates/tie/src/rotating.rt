@@ -1,6 +1,5 @@
 // rotating.rt — the rule by which the next marked port loses, going round from the port after the last loss.
-ghost use Rattle.std.specs.Prelude.{◌≡◌, ◌+◌, ◌%◌, ◌<◌, ◌≤◌, length};
-ghost use Rattle.std.specs.Option.{unwrap_or};
+ghost use Rattle.std.specs.Prelude.{◌≡◌, length};
 ghost use Rattle.tie.specs.Candidates.{that_count};
 ghost use Rattle.tie.specs.Rules.{least_marked, Chosen, distance, GoesRound, nearest, turned};
 ghost use Rattle.tie.specs.Picking.{nearest_lawful};
@@ -24,41 +23,29 @@ impl Rotating {
 
     // The first of the marked candidates that count, going round from the start.
     fn next_marked(&self, candidates: &[Candidate]) -> Option<usize>
-        ensures value { result ≡ least_marked (distance (length (that_count candidates.now)) self.now.start) candidates.now }
-        ensures law { Chosen (distance (length (that_count candidates.now)) self.now.start) candidates.now (unwrap_or result 256) }
-        ensures round { GoesRound (length (that_count candidates.now)) self.now.start }
+        ensures { result ≡ least_marked (distance (length (that_count candidates.now)) self.now.start) candidates.now }
     {
         let candidates = that_count(candidates);
-        for step in 0..candidates.len() {
-            let port = port_at(self.start, step, candidates.len());
-            if candidates[port].is_marked() {
-                return Some(port);
-            }
-        }
-        None
+        let n = candidates.len();
+        let start = self.start.checked_rem(n).unwrap_or(0);
+        (0..n)
+            .map(|step| (start + step) % n)
+            .find(|port| candidates[*port].is_marked())
     }
-}
-
-// The port that comes at this step, going round n ports from the start.
-fn port_at(start: usize, step: usize, n: usize) -> usize
-    requires { (step < n) × (n ≤ 256) }
-    ensures value { result ≡ (start % n + step) % n }
-    ensures below { result < n }
-{
-    (start % n + step) % n
 }
 
 impl TieRule for Rotating {
     const LETTER: u8 = b'R';
 
+    ghost LETTER = { 82 };
+
     ghost picks = { nearest };
 
     ghost after = { turned };
 
-    ghost letter = { 82 };
-
     ghost lawful = { nearest_lawful };
 
+    #[tactic(auto, using(crate::proofs::Searching::chosen_by, crate::proofs::Turning::goes_round))]
     fn pick(&self, candidates: &[Candidate]) -> usize
         ensures value { result ≡ nearest self.now candidates.now }
         ensures law { Chosen (distance (length (that_count candidates.now)) self.now.start) candidates.now result }
@@ -71,9 +58,5 @@ impl TieRule for Rotating {
         if port < MAX_PORTS {
             self.start = port + 1;
         }
-    }
-
-    fn report_letter() -> u8 {
-        Self::LETTER
     }
 }

@@ -10,7 +10,7 @@ use refusal::Refusal;
 
 // A yes or no for each port, over a rule below. It is a rule again, with the letter of the rule below, so that layers can
 // be piled.
-#[derive(Drop)]
+#[derive(PartialEq, Eq, Debug, Drop)]
 pub struct Sheltering<R> {
     shelters: Shelters,
     rule: R,
@@ -43,11 +43,11 @@ impl<R> Sheltering<R> {
 impl<R: TieRule> TieRule for Sheltering<R> {
     const LETTER: u8 = R::LETTER;
 
+    ghost LETTER = { R.TieRule.LETTER };
+
     ghost picks = { layered R.TieRule.picks };
 
     ghost after = { told_below R.TieRule.after };
-
-    ghost letter = { R.TieRule.letter };
 
     ghost lawful = { layered_lawful R.TieRule.picks R.TieRule.lawful };
 
@@ -55,16 +55,11 @@ impl<R: TieRule> TieRule for Sheltering<R> {
         ensures value { result ≡ layered R.TieRule.picks self.now candidates.now }
         ensures law { Spares self.now.shelters.sheltered candidates.now result }
     {
-        let candidates = that_count(candidates);
         let below = self.shelters.hand_down(candidates);
-        self.rule.pick(&below[0..candidates.len()])
+        self.rule.pick(&below[..that_count(candidates).len()])
     }
 
     fn told(&mut self, port: usize) {
         self.rule.told(port);
-    }
-
-    fn report_letter() -> u8 {
-        R::report_letter()
     }
 }

@@ -1,10 +1,11 @@
 // shelters.rt — a yes or no for each port, and what it makes of the candidates for the rule below.
-ghost use Rattle.std.specs.Prelude.{◌≡◌, ◌<◌, ◌≤◌, false, not, ◌&&◌, length, take, replicate, slice_set};
-ghost use Rattle.tie.specs.Sheltered.{is_sheltered, exposes, handed_down};
+ghost use Rattle.std.specs.Prelude.{◌≡◌, ◌<◌, false, length, take, replicate, slice_set};
+ghost use Rattle.tie.specs.Candidates.{that_count};
+ghost use Rattle.tie.specs.Sheltered.{exposes, handed_down};
 
 use crate::candidate::{Candidate, MAX_PORTS};
 
-#[derive(Drop)]
+#[derive(PartialEq, Eq, Debug, Drop)]
 pub(crate) struct Shelters {
     sheltered: [bool; 256],
 }
@@ -27,16 +28,16 @@ impl Shelters {
         self.sheltered[port] = yes;
     }
 
-    // The candidates as they go to the rule below, in the first places of a table of 256.
+    // The candidates that count as they go to the rule below, in the first places of a table of 256.
+    #[tactic(auto, using(crate::proofs::HandingDown::down_more))]
     pub(crate) fn hand_down(&self, candidates: &[Candidate]) -> [Candidate; 256]
-        requires { length candidates.now ≤ 256 }
         ensures len { length result ≡ 256 }
-        ensures value { take (length candidates.now) result ≡ handed_down self.now.sheltered candidates.now }
+        ensures value { take (length (that_count candidates.now)) result ≡ handed_down self.now.sheltered candidates.now }
     {
         let exposes = self.exposes(candidates);
         let mut below = [Candidate::new(false, 0); MAX_PORTS];
-        for (port, candidate) in candidates.iter().enumerate() {
-            below[port] = if exposes && self.sheltered[port] {
+        for (port, (candidate, sheltered)) in candidates.iter().zip(&self.sheltered).enumerate() {
+            below[port] = if exposes && *sheltered {
                 candidate.unmarked()
             } else {
                 *candidate
@@ -45,24 +46,11 @@ impl Shelters {
         below
     }
 
-    // Whether a marked candidate is not sheltered.
+    // Whether a marked candidate that counts is not sheltered.
     fn exposes(&self, candidates: &[Candidate]) -> bool
-        requires { length candidates.now ≤ 256 }
-        ensures { result ≡ exposes self.now.sheltered candidates.now }
+        ensures value { result ≡ exposes self.now.sheltered candidates.now }
     {
-        for (port, candidate) in candidates.iter().enumerate() {
-            if self.is_exposed(port, candidate) {
-                return true;
-            }
-        }
-        false
-    }
-
-    // Whether the candidate is marked and its port not sheltered.
-    fn is_exposed(&self, port: usize, candidate: &Candidate) -> bool
-        requires { port < 256 }
-        ensures { result ≡ (candidate.now.marked && not (is_sheltered self.now.sheltered port)) }
-    {
-        candidate.is_marked() && !self.sheltered[port]
+        let mut ports = candidates.iter().zip(&self.sheltered);
+        ports.any(|(candidate, sheltered)| candidate.is_marked() && !*sheltered)
     }
 }

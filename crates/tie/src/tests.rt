@@ -15,17 +15,16 @@ enum Marks {
 
 // What the rule picks from the first n of 300 candidates. Two neighbours have one stamp, and later ones a smaller one.
 fn picked<R: TieRule>(rule: &R, n: usize, marks: Marks) -> usize {
-    let mut list = [Candidate::new(false, 0); 300];
-    for port in 0..300 {
+    let list: [Candidate; 300] = std::array::from_fn(|port| {
         let marked = match marks {
             Marks::Nobody => false,
             Marks::Last => port + 1 == n,
             Marks::Third => port % 3 == 1,
             Marks::All => true,
         };
-        list[port] = Candidate::new(marked, 500 - (port / 2) as u32);
-    }
-    rule.pick(&list[0..n.min(300)])
+        Candidate::new(marked, 500 - (port / 2) as u32)
+    });
+    rule.pick(&list[..n.min(300)])
 }
 
 // A rotating rule that was told of this port.

@@ -13,14 +13,14 @@ pub trait TieRule {
     // The letter that stands for the rule in a report.
     const LETTER: u8;
 
+    // The same letter, where a clause can name it.
+    ghost LETTER: { ℕ };
+
     // The port that is picked in a state from these candidates.
     ghost picks: { Self → List Candidate → ℕ };
 
     // The state after the rule is told of a port.
     ghost after: { Self → ℕ → Self };
-
-    // The letter again, where a clause can name it.
-    ghost letter: { ℕ };
 
     // Picks the port that loses its tail cell; 256 where none is marked.
     fn pick(&self, candidates: &[Candidate]) -> usize
@@ -30,9 +30,12 @@ pub trait TieRule {
     fn told(&mut self, port: usize)
         ensures after { self.new ≡ after self.old port };
 
-    // Answers `LETTER`, and says in its contract which letter that is.
-    fn report_letter() -> u8
-        ensures value { result ≡ letter };
+    // Answers the letter, for a caller that has a contract to meet about it.
+    final fn report_letter() -> u8
+        ensures value { result ≡ LETTER }
+    {
+        Self::LETTER
+    }
 
     // A marked port if one is marked, and 256 otherwise: in every state, from every list.
     ghost lawful: { Lawful picks };

@@ -1,22 +1,26 @@
-use Rattle.std.proofs.Common.{ℕ, ◌+◌, ◌<◌, length, Option, sym, ap, subst, arith}
-use Rattle.tie.specs.Candidates.{is_marked}
-use Rattle.tie.specs.Picking.{Sofar, sofar_passes, best_takes, finds_sofar, read_marked, read_few}
+use Rattle.std.proofs.Common.{rules, ◌≡◌, ℕ, ◌<◌, true, false, List, length, None, Some, arith}
+use Rattle.std.proofs.iter.runs.Made.{chains}
+use Rattle.std.proofs.lemmas.Bool.{both_ways}
+use Rattle.tie.specs.declared.candidate.Candidate.{Candidate}
+use Rattle.tie.specs.Candidates.{that_count, is_marked}
+use Rattle.tie.specs.Picking.{few, counts, Best}
+use Rattle.tie.proofs.Searching.{not_less, best_by, is_least}
 use Rattle.example_rule.specs.Highest.{from_the_top}
 use Rattle.example_rule.proofs.highest_marked.Goals as goal
-use Rattle.example_rule.proofs.highest_marked.Goals.{then-is_marked, else-is_marked}
 
--- a marked port comes before every port below it; an unmarked one changes nothing
-pub loop-port-preserved : goal.loop-port-preserved
-loop-port-preserved c =
-    let is = c.that_count-candidate-items.ensures.value in
-    let low : c.loop-port.port < 256 = omega (arith, read_few _ _ is) in
-    let Next : Option ℕ → Type 0 = Sofar (is_marked c.args.candidates.now) from_the_top (c.loop-port.port + 1) in
-    elim c.if-is_marked.branch [
-      | then-is_marked w ↦ subst Next (sym w.best-is) (best_takes _ _ _ (read_marked _ _ is _ _ w.if-is_marked.ensures.value) (λ q l t. omega arith))
-      | else-is_marked w ↦ subst Next (sym w.best-is) (sofar_passes _ _ _ c.loop-port.best c.loop-port.invariant (read_marked _ _ is _ _ w.if-is_marked.ensures.value))
-    ]
+-- the last marked port lies the least below the top
+last_is_best : (cs : List Candidate) (p : ℕ) → is_marked cs p ≡ true → ((q : ℕ) → p < q → q < length (that_count cs) → is_marked cs q ≡ false) → Best (is_marked cs) from_the_top (length (that_count cs)) p
+last_is_best cs p here after =
+    let low : p < 256 = omega (arith, counts cs p here, few cs) in
+    best_by (is_marked cs) from_the_top (length (that_count cs)) p (counts cs p here) here
+    (λ q l t. omega (arith, not_less p q (λ h. both_ways (is_marked cs q) (after q h l) t)))
+    (λ q h t. omega arith)
 
 pub returns : goal.returns
 returns c =
-    let is = c.that_count-candidate-items.ensures.value in
-    (finds_sofar _ _ _ c.loop-port.best (omega (arith, ap length is)) c.loop-port.invariant).value
+    let cs = c.args.candidates.now in
+    let r = c.rposition.result in
+    let none : r ≡ None → (q : ℕ) → q < length (that_count cs) → is_marked cs q ≡ false = λ e q l. search (rules, chains) in
+    let here : (p : ℕ) → r ≡ Some p → is_marked cs p ≡ true = λ p e. search (rules, chains) in
+    let after : (p : ℕ) → r ≡ Some p → (q : ℕ) → p < q → q < length (that_count cs) → is_marked cs q ≡ false = λ p e q h l. search (rules, chains) in
+    is_least from_the_top cs r none (λ p e. last_is_best cs p (here p e) (after p e))

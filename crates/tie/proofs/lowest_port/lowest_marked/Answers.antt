@@ -1,20 +1,14 @@
-use Rattle.std.proofs.Common.{arith, below_none, below_more}
-use Rattle.std.proofs.lemmas.Bool.{both_ways}
-use Rattle.tie.specs.Picking.{read_marked, read_counts, chosen_lowest, finds_none, finds_some}
+use Rattle.std.proofs.Common.{rules, ◌≡◌, ℕ, ◌<◌, true, false, length, None, Some}
+use Rattle.std.proofs.iter.runs.Made.{chains}
+use Rattle.tie.specs.Candidates.{that_count, is_marked}
+use Rattle.tie.proofs.Searching.{is_least, first_is_best}
 use Rattle.tie.proofs.lowest_port.lowest_marked.Goals as goal
-
-pub loop-port-init : goal.loop-port-init
-loop-port-init c = below_none _
-
-pub returns-then-is_marked : goal.returns-then-is_marked
-returns-then-is_marked c =
-    let here = read_marked _ _ c.that_count-candidate-items.ensures.value _ _ c.if-is_marked.ensures.value in
-    finds_some _ _ _ here (chosen_lowest _ _ here c.loop-port.invariant)
-
-pub loop-port-preserved : goal.loop-port-preserved
-loop-port-preserved c = below_more _ _ c.loop-port.invariant (read_marked _ _ c.that_count-candidate-items.ensures.value _ _ c.if-is_marked.ensures.value)
 
 pub returns : goal.returns
 returns c =
-    let is = c.that_count-candidate-items.ensures.value in
-    finds_none _ _ (λ q t. both_ways _ (c.loop-port.invariant q (omega (arith, read_counts _ _ is q t))) t)
+    let cs = c.args.candidates.now in
+    let r = c.position.result in
+    let none : r ≡ None → (q : ℕ) → q < length (that_count cs) → is_marked cs q ≡ false = λ e q l. search (rules, chains) in
+    let here : (p : ℕ) → r ≡ Some p → is_marked cs p ≡ true = λ p e. search (rules, chains) in
+    let before : (p : ℕ) → r ≡ Some p → (q : ℕ) → q < p → is_marked cs q ≡ false = λ p e q l. search (rules, chains) in
+    is_least _ cs r none (λ p e. first_is_best cs p (here p e) (before p e))

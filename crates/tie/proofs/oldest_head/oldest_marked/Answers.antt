@@ -1,38 +1,57 @@
-use Rattle.std.proofs.Common.{ℕ, ◌+◌, List, length, get_or, Some, Option, sym, ap, ◌∙◌, subst, arith}
+use Rattle.std.proofs.Common.{rules, tests, ◌≡◌, ℕ, Bool, true, cond, nat_lt, List, length, slice_index_or, Some, None, Option, refl, sym, ap, ◌∙◌, arith}
+use Rattle.std.specs.Option.{option_map}
+use Rattle.std.proofs.lemmas.Bool.{cond-true, cond-false, cond_both}
 use Rattle.tie.specs.declared.candidate.Candidate.{Candidate}
-use Rattle.tie.specs.Candidates.{nobody, is_marked, stamp_of}
-use Rattle.tie.specs.Rules.{smaller}
-use Rattle.tie.specs.Picking.{Best, Sofar, sofar_passes, best_more, best_first, finds_sofar, read_marked}
+use Rattle.tie.specs.Candidates.{nobody, that_count, stamp_of, is_marked}
+use Rattle.tie.specs.Rules.{least_marked}
+use Rattle.tie.proofs.Searching.{ports, kept, smallest_more}
 use Rattle.tie.proofs.oldest_head.oldest_marked.Goals as goal
-use Rattle.tie.proofs.oldest_head.oldest_marked.Goals.{in-Some, in-None}
+use Rattle.tie.proofs.oldest_head.oldest_marked.Goals.{then-is_marked+then-is_none_or, else-is_marked, else-is_marked-via-then-is_marked+else-is_none_or, else-is_marked-via-else-is_marked}
 
-pub loop-port-preserved-then-not-is_marked : goal.loop-port-preserved-then-not-is_marked
-loop-port-preserved-then-not-is_marked c =
-    sofar_passes _ _ _ c.loop-port.best c.loop-port.invariant (read_marked _ _ c.that_count-candidates.ensures.value _ _ c.if-not-is_marked.ensures.value)
+-- a port beside its key
+abbrev keyed : (ℕ → ℕ) → Option ℕ → Option (ℕ × ℕ)
+keyed key o = option_map (λ (p : ℕ). (p, key p)) o
 
-pub older-requires : goal.older-requires
-older-requires c =
-    let cs = c.args.candidates.now in
-    let best : Best (is_marked cs) (stamp_of cs) c.loop-port.port c.in-Some.so_far = subst (Sofar (is_marked cs) (stamp_of cs) c.loop-port.port) c.in-Some.is c.loop-port.invariant in
-    (omega (arith, best.here.0), c.loop-port-test.true)
+-- the best after a marked port i with key k; t says whether it comes before the best so far
+taken : (key : ℕ → ℕ) (i k : ℕ) (o : Option ℕ) (best : Option (ℕ × ℕ)) (t : Bool) → k ≡ key i → best ≡ keyed key o → (best ≡ None → t ≡ true) → ((x : ℕ × ℕ) → best ≡ Some x → t ≡ nat_lt k x.1) → cond t (Some (i, k)) best ≡ keyed key (Some (kept key o i))
+taken key i k None best t age is none some = rw (none is, age) refl
+taken key i k (Some b) best t age is none some = rw (some (b, key b) is, is, age) (cond_both (nat_lt (key i) (key b)) i b (λ p. cond {A = Option (ℕ × ℕ)} (nat_lt (key i) (key b)) (Some (i, key i)) (Some (b, key b)) ≡ Some (p, key p)) (cond-true _ _ _) (cond-false _ _ _))
+
+-- the port of the best alone
+unkeyed : (key : ℕ → ℕ) (o : Option ℕ) (best : Option (ℕ × ℕ)) (r : Option ℕ) → best ≡ keyed key o → (best ≡ None → r ≡ None) → ((x : ℕ × ℕ) → best ≡ Some x → r ≡ Some x.0) → r ≡ o
+unkeyed key None best r is none some = none is
+unkeyed key (Some p) best r is none some = some (p, key p) is
+
+pub loop-port-init : goal.loop-port-init
+unfolding ports
+loop-port-init c = refl
 
 pub loop-port-preserved : goal.loop-port-preserved
 loop-port-preserved c =
-    let cs = c.args.candidates.now in
-    let is = c.that_count-candidates.ensures.value in
+    let is = c.that_count-candidate-items.ensures.value in
+    let m = is_marked c.args.candidates.now in
+    let key = stamp_of c.args.candidates.now in
     let port = c.loop-port.port in
-    let here = read_marked _ _ is _ _ c.if-not-is_marked.ensures.value in
-    let Now : Option ℕ → Type 0 = Sofar (is_marked cs) (stamp_of cs) port in
-    let Next : Option ℕ → Type 0 = Sofar (is_marked cs) (stamp_of cs) (port + 1) in
-    elim c.match-best.branch [
-      | in-Some w ↦
-          let b = w.in-Some.so_far in
-          let chosen = w.older.ensures ∙ ap (λ (l : List Candidate). smaller (λ k. (get_or l k nobody).stamp) b port) is in
-          subst Next (sym (w.best-is ∙ ap (λ (n : ℕ). Some n) chosen)) (best_more _ _ _ _ (subst Now w.in-Some.is c.loop-port.invariant) here)
-      | in-None w ↦ subst Next (sym w.best-is) (best_first _ _ _ (subst Now w.in-None.is c.loop-port.invariant) here)
+    let best = c.loop-port.best in
+    let here : c.is_marked.result ≡ m port = c.is_marked.ensures.value ∙ ap (λ (l : List Candidate). (slice_index_or l port nobody).marked) is in
+    let age : c.stamp-stamp.result ≡ key port = c.stamp-stamp.ensures.value ∙ ap (λ (l : List Candidate). (slice_index_or l port nobody).stamp) is in
+    let more = smallest_more m key port in
+    elim c.if-is_marked.branch [
+      | then-is_marked+then-is_none_or w ↦
+          let turn = taken key port _ _ best w.is_none_or.result age c.loop-port.invariant (λ e. rw e at w.is_none_or.ensures) (λ x e. search (rules, tests)) in
+          w.best-is ∙ sym (cond-true _ _ best w.if-is_none_or.true) ∙ turn ∙ ap (keyed key) (sym (more ∙ cond-true _ _ _ (sym here ∙ w.if-is_marked.true)))
+      | else-is_marked w ↦ elim w.else-is_marked.branch [
+        | else-is_marked-via-then-is_marked+else-is_none_or w' ↦
+            let turn = taken key port _ _ best w'.is_none_or.result age c.loop-port.invariant (λ e. rw e at w'.is_none_or.ensures) (λ x e. search (rules, tests)) in
+            w.best-is ∙ sym (cond-false _ _ best w'.if-is_none_or.false) ∙ turn ∙ ap (keyed key) (sym (more ∙ cond-true _ _ _ (sym here ∙ w'.if-is_marked.true)))
+        | else-is_marked-via-else-is_marked w' ↦ w.best-is ∙ c.loop-port.invariant ∙ ap (keyed key) (sym (more ∙ cond-false _ _ _ (sym here ∙ w'.if-is_marked.false)))
+      ]
     ]
 
 pub returns : goal.returns
+unfolding least_marked ports
 returns c =
-    let is = c.that_count-candidates.ensures.value in
-    finds_sofar _ _ _ c.loop-port.best (omega (arith, ap length is)) c.loop-port.invariant
+    let cs = c.args.candidates.now in
+    let all : c.loop-port.port ≡ length (that_count cs) = omega (arith, ap length c.that_count-candidate-items.ensures.value) in
+    let best : c.loop-port.best ≡ keyed (stamp_of cs) (least_marked (stamp_of cs) cs) = rw (← all) c.loop-port.invariant in
+    unkeyed (stamp_of cs) _ _ c.map.result best (λ e. search (rules, tests)) (λ x e. search (rules, tests))

@@ -1,6 +1,9 @@
+use Rattle.std.proofs.Common.{◌≡◌, ℕ}
+use Rattle.std.specs.Option.{option_map}
 use Rattle.tie.specs.Candidates.{is_marked, stamp_of}
-use Rattle.tie.specs.Picking.{Sofar}
+use Rattle.tie.specs.Rules.{smallest}
+use Rattle.tie.proofs.Searching.{ports}
 use Rattle.tie.proofs.oldest_head.oldest_marked.Given as goal
 
 abbrev pub invariant-loop-port : goal.invariant-loop-port
-invariant-loop-port l = Sofar (is_marked l.candidates-2) (stamp_of l.candidates-2) l.port l.best
+invariant-loop-port l = l.best ≡ option_map (λ (p : ℕ). (p, stamp_of l.candidates p)) (smallest (stamp_of l.candidates) (ports (is_marked l.candidates) l.port))

@@ -1,27 +1,27 @@
-use Rattle.std.proofs.Common.{◌≡◌, false, length, ap, subst, arith, below_none, below_more}
-use Rattle.tie.specs.Candidates.{is_marked}
-use Rattle.tie.specs.Picking.{read_marked, read_few}
-use Rattle.tie.proofs.Turning.{comes_some, comes_none}
+use Rattle.std.proofs.Common.{rules, tests, ◌≡◌, ◌+◌, ◌%◌, true, false, length, slice_index_or, map, List, subst, ap, ◌∙◌, refl, arith}
+use Rattle.std.specs.List.{range_with_len}
+use Rattle.std.proofs.lemmas.Iterator.{YieldsList-from_range, YieldsList-from_map, first_from_find}
+use Rattle.std.proofs.lemmas.Iterator.Consumers.{YieldsList-at}
+use Rattle.tie.specs.declared.candidate.Candidate.{Candidate}
+use Rattle.tie.specs.Candidates.{nobody}
+use Rattle.tie.specs.Rules.{distance}
+use Rattle.tie.specs.Picking.{Sofar}
+use Rattle.tie.proofs.Searching.{sofar_is_least}
+use Rattle.tie.proofs.Turning.{First, turns, nearest}
 use Rattle.tie.proofs.rotating.Rotating.next_marked.Goals as goal
-
-pub loop-step-init : goal.loop-step-init
-loop-step-init c = below_none _
-
-pub port_at-port-requires : goal.port_at-port-requires
-port_at-port-requires c = (c.loop-step-test.true, read_few _ _ c.that_count-candidates.ensures.value)
-
-pub returns-then-is_marked : goal.returns-then-is_marked
-returns-then-is_marked c =
-    let is = c.that_count-candidates.ensures.value in
-    let here = read_marked _ _ is _ _ c.if-is_marked.ensures.value in
-    comes_some _ _ _ (ap length is) _ _ c.loop-step-test.true c.port_at-port.ensures.value here c.loop-step.invariant
-
-pub loop-step-preserved : goal.loop-step-preserved
-loop-step-preserved c =
-    let here = read_marked _ _ c.that_count-candidates.ensures.value _ _ c.if-is_marked.ensures.value in
-    below_more _ _ c.loop-step.invariant (subst (λ p. is_marked c.args.candidates.now p ≡ false) c.port_at-port.ensures.value here)
 
 pub returns : goal.returns
 returns c =
-    let is = c.that_count-candidates.ensures.value in
-    comes_none _ _ _ (ap length is) (λ d l. c.loop-step.invariant d (omega arith))
+    let cs = c.args.candidates.now in
+    let counted = c.that_count-candidates.result.now in
+    let n = length counted in
+    let s = c.args.self.now.start in
+    let start = c.unwrap_or-start.result in
+    let r = c.find.result in
+    let steps = YieldsList-at c.map.ensures.source (YieldsList-from_range 0 n n refl (omega arith)) in
+    let found = first_from_find c.find.new.self _ r (λ p. (slice_index_or counted p nobody).marked ≡ true) (λ p. (slice_index_or counted p nobody).marked ≡ false) c.find.ensures.ran
+    (YieldsList-from_map _ (λ step. (start + step) % n) steps c.map.ensures.closure (λ x r q k. search rules)) (λ x q k. search (rules, tests)) (λ x q k. search (rules, tests)) in
+    let from = ap (λ k. map (λ step. (k + step) % n) (range_with_len 0 n)) c.unwrap_or-start.ensures ∙ turns c.checked_rem.result n s c.checked_rem.ensures in
+    let round = subst (λ ports. First (λ p. (slice_index_or counted p nobody).marked) ports r) from found in
+    let all = subst (λ (l : List Candidate). Sofar (λ p. (slice_index_or l p nobody).marked) (distance (length l) s) (length l) r) c.that_count-candidates.ensures.value (nearest _ n s r round) in
+    sofar_is_least _ cs r all

@@ -1,16 +1,18 @@
-use Rattle.std.proofs.Common.{ap, ◌∙◌, arith}
-use Rattle.tie.specs.Layers.{down_counted, as_layered}
-use Rattle.tie.specs.Picking.{read_few}
+use Rattle.std.proofs.Common.{List, length, take, sym, ap, ◌∙◌, arith}
+use Rattle.std.proofs.lemmas.List.{length-take-le}
+use Rattle.tie.specs.declared.candidate.Candidate.{Candidate}
+use Rattle.tie.specs.Picking.{few}
+use Rattle.tie.proofs.HandingDown.{as_layered}
 use Rattle.tie.proofs.sheltering.ShelteringTieRule.pick.Goals as goal
 
-pub hand_down-below-requires : goal.hand_down-below-requires
-hand_down-below-requires g c = read_few _ _ c.that_count-candidates.ensures.value
+pub slice_bounds-below-end : goal.slice_bounds-below-end
+slice_bounds-below-end g c = omega (arith, few c.args.candidates.now, ap length c.that_count.ensures.value)
 
 pub slice_bounds-pick-end : goal.slice_bounds-pick-end
-slice_bounds-pick-end g c = omega (arith, read_few _ _ c.that_count-candidates.ensures.value, c.hand_down-below.ensures.len)
+slice_bounds-pick-end g c = sym (length-take-le _ c.hand_down-below.result (omega (arith, few c.args.candidates.now, ap length c.that_count.ensures.value, c.hand_down-below.ensures.len)))
 
 pub returns : goal.returns
 returns g c =
-    let picks = g.R.TieRule.picks in
-    let below = down_counted _ _ _ _ c.that_count-candidates.ensures.value c.hand_down-below.ensures.value in
-    as_layered picks g.met.R.TieRule.lawful c.args.self.now c.args.candidates.now _ (c.pick.ensures.value ∙ ap (picks c.args.self.now.rule) below)
+    let picks = g.R.TieRule.picks c.args.self.now.rule in
+    let counted = ap (λ (l : List Candidate). picks (take (length l) c.hand_down-below.result)) c.that_count.ensures.value in
+    as_layered g.R.TieRule.picks g.met.R.TieRule.lawful c.args.self.now c.args.candidates.now _ (c.pick.ensures.value ∙ counted ∙ ap picks c.hand_down-below.ensures.value)

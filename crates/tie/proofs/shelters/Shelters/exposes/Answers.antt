@@ -1,13 +1,14 @@
-use Rattle.std.proofs.Common.{sym, arith, below_more}
-use Rattle.tie.specs.Layers.{read_exposed, exposes_some, exposes_none}
+use Rattle.std.proofs.Common.{rules, tests, ◌∙◌, arith}
+use Rattle.std.proofs.lemmas.Iterator.{YieldsList-from_slice, YieldsList-from_zip}
+use Rattle.std.proofs.lemmas.Iterator.Consumers.{YieldsList-at}
+use Rattle.std.proofs.lemmas.Iterator.Search.{any_from_yields_List}
+use Rattle.tie.proofs.HandingDown.{open_to, exposes_zip}
 use Rattle.tie.proofs.shelters.Shelters.exposes.Goals as goal
 
-pub returns-then-is_exposed : goal.returns-then-is_exposed
-returns-then-is_exposed c =
-    sym (exposes_some _ _ c.requires _ c.loop-port-test.true (read_exposed _ _ c.requires _ _ c.if-is_exposed.ensures))
-
-pub loop-port-preserved : goal.loop-port-preserved
-loop-port-preserved c = below_more _ _ c.loop-port.invariant (read_exposed _ _ c.requires _ _ c.if-is_exposed.ensures)
-
 pub returns : goal.returns
-returns c = sym (exposes_none _ _ c.requires (λ p l. c.loop-port.invariant p (omega arith)))
+returns c =
+    let cs = c.args.candidates.now in
+    let table = c.args.self.now.sheltered in
+    let pairs = YieldsList-from_zip (YieldsList-at c.zip-ports.ensures.first (YieldsList-from_slice cs c.iter.ensures.rest)) (YieldsList-from_slice table c.zip-ports.ensures.second.0) in
+    let found = any_from_yields_List open_to c.any.new.self _ c.any.result c.any.ensures.ran pairs (λ x b q k. search (rules, tests)) in
+    record { value = found ∙ exposes_zip table cs (omega arith) }
