@@ -7,7 +7,7 @@ use Rattle.tie.specs.declared.candidate.Candidate.{Candidate}
 use Rattle.lqd.specs.Events.{Event, arrival, tick, begins, goes}
 use Rattle.tie.specs.Candidates.{by_port}
 use Rattle.lqd.specs.Ports.{in_all, greatest, one}
-use Rattle.lqd.specs.LongestQueueDrop.{Held, State, Loss, opened, head_period, without_tail, queue, held, sent_by, enqueued, pushed_out, stamp, candidates, ticked, loser, lost_in, arrive, Step, Run, losses}
+use Rattle.lqd.specs.LongestQueueDrop.{Meaning, Held, State, Loss, opened, head_period, without_tail, queue, held, sent_by, enqueued, pushed_out, stamp, candidates, ticked, loser, lost_in, arrive, Step, Run, losses}
 use Rattle.lqd.specs.Promises.{without_places, OnlyPlacesAreFree}
 use Rattle.lqd.proofs.Steps.{outcome}
 use Rattle.lqd.proofs.Replaying.{replayed, losses_in}
@@ -88,48 +88,48 @@ module _ {R : Type 0} where
       } in
       ap (holding (without_places (ticked s))) (heads_bare s.queues) ∙ ap sending (sym (held_bare s))
 
-  module _ (picks : R → List Candidate → ℕ) (after : R → ℕ → R) where
-    loser_bare : (s : State R) (k : ℕ) → loser picks (without_places s) k ≡ loser picks s k
+  module _ (meaning : Meaning R) where
+    loser_bare : (s : State R) (k : ℕ) → loser meaning (without_places s) k ≡ loser meaning s k
     unfolding loser
     loser_bare s k =
-        ap (λ h. cond (ltb (in_all s.ports h) s.cells) None (Some (picks s.rule (candidates (without_places s) k)))) (held_bare s) ∙
-        ap (λ cs. cond (ltb (in_all s.ports (held s)) s.cells) None (Some (picks s.rule cs))) (candidates_bare s k)
+        ap (λ h. cond (ltb (in_all s.ports h) s.cells) None (Some (meaning.picks s.rule (candidates (without_places s) k)))) (held_bare s) ∙
+        ap (λ cs. cond (ltb (in_all s.ports (held s)) s.cells) None (Some (meaning.picks s.rule cs))) (candidates_bare s k)
 
-    outcome_bare : (s : State R) (k x : ℕ) (o : Option ℕ) → without_places (outcome after s k x o) ≡ outcome after (without_places s) k 0 o
+    outcome_bare : (s : State R) (k x : ℕ) (o : Option ℕ) → without_places (outcome meaning s k x o) ≡ outcome meaning (without_places s) k 0 o
     outcome_bare s k x None = ap (holding (without_places (enqueued s k x))) (joined_bare s.queues k (record { place = x; period = s.period }))
     outcome_bare s k x (Some v) =
-        ap (holding (without_places (pushed_out after (enqueued s k x) v))) (tail_bare (enqueued s k x).queues v ∙ ap (λ qs. without_tail qs v) (joined_bare s.queues k (record { place = x; period = s.period })))
+        ap (holding (without_places (pushed_out meaning (enqueued s k x) v))) (tail_bare (enqueued s k x).queues v ∙ ap (λ qs. without_tail qs v) (joined_bare s.queues k (record { place = x; period = s.period })))
 
-    arrive_bare : (s : State R) (k x : ℕ) → without_places (arrive picks after s k x) ≡ arrive picks after (without_places s) k 0
+    arrive_bare : (s : State R) (k x : ℕ) → without_places (arrive meaning s k x) ≡ arrive meaning (without_places s) k 0
     unfolding arrive
-    arrive_bare s k x = outcome_bare s k x (loser picks s k) ∙ ap (outcome after (without_places s) k 0) (sym (loser_bare s k))
+    arrive_bare s k x = outcome_bare s k x (loser meaning s k) ∙ ap (outcome meaning (without_places s) k 0) (sym (loser_bare s k))
 
-    lost_bare : (s : State R) (e : Event) → lost_in picks s e ≡ lost_in picks (without_places s) e
+    lost_bare : (s : State R) (e : Event) → lost_in meaning s e ≡ lost_in meaning (without_places s) e
     lost_bare s (arrival k) = ap (λ o. elim o as (λ v. List Loss) [ None ↦ [] | Some v ↦ record { period = s.period; arriving = k; losing = v } ∷ [] ]) (sym (loser_bare s k))
     lost_bare s tick = refl
 
     -- a run is what its events give with every place 0
     module _ (rule : R) (n b : ℕ) where
       plain : List Event → State R
-      plain es = replayed picks after rule n b es (λ i. 0)
+      plain es = replayed meaning rule n b es (λ i. 0)
 
-      step_bare : (e : Event) (es : List Event) (s t : State R) → Step picks after s e t → without_places s ≡ plain es → without_places t ≡ plain (e ∷ es)
+      step_bare : (e : Event) (es : List Event) (s t : State R) → Step meaning s e t → without_places s ≡ plain es → without_places t ≡ plain (e ∷ es)
       unfolding plain replayed
-      step_bare (arrival k) es s t step same = ap without_places step.gives ∙ arrive_bare s k step.place ∙ ap (λ s. arrive picks after s k 0) same
+      step_bare (arrival k) es s t step same = ap without_places step.gives ∙ arrive_bare s k step.place ∙ ap (λ s. arrive meaning s k 0) same
       step_bare tick es s t step same = ap without_places step ∙ tick_bare s ∙ ap ticked same
 
-      run_bare : {es : List Event} {s : State R} → Run picks after rule n b es s → without_places s ≡ plain es
+      run_bare : {es : List Event} {s : State R} → Run meaning rule n b es s → without_places s ≡ plain es
       unfolding plain replayed
       run_bare (begins start) = ap without_places start ∙ ap (holding (opened rule n b)) (empty_bare n)
       run_bare (goes {es = es} {e = e} {s = s} {t = t} run step) = step_bare e es s t step (run_bare run)
 
-      losses_bare : {es : List Event} {s : State R} (run : Run picks after rule n b es s) → losses picks after run ≡ losses_in picks after rule n b es (λ i. 0)
+      losses_bare : {es : List Event} {s : State R} (run : Run meaning rule n b es s) → losses meaning run ≡ losses_in meaning rule n b es (λ i. 0)
       unfolding plain losses_in
       losses_bare (begins start) = refl
       losses_bare (goes {es = es} {e = e} {s = s} run step) =
-          ap (λ these. these ++ lost_in picks s e) (losses_bare run) ∙
-          ap (λ last. losses_in picks after rule n b es (λ i. 0) ++ last) (lost_bare s e ∙ ap (λ s. lost_in picks s e) (run_bare run))
+          ap (λ these. these ++ lost_in meaning s e) (losses_bare run) ∙
+          ap (λ last. losses_in meaning rule n b es (λ i. 0) ++ last) (lost_bare s e ∙ ap (λ s. lost_in meaning s e) (run_bare run))
 
-pub only_places : {R : Type 0} (picks : R → List Candidate → ℕ) (after : R → ℕ → R) → OnlyPlacesAreFree picks after
-only_places picks after rule n b es s t run other =
-    (run_bare picks after rule n b run ∙ sym (run_bare picks after rule n b other), losses_bare picks after rule n b run ∙ sym (losses_bare picks after rule n b other))
+pub only_places : {R : Type 0} (meaning : Meaning R) → OnlyPlacesAreFree meaning
+only_places meaning rule n b es s t run other =
+    (run_bare meaning rule n b run ∙ sym (run_bare meaning rule n b other), losses_bare meaning rule n b run ∙ sym (losses_bare meaning rule n b other))

@@ -2,12 +2,16 @@
 use Rattle.std.proofs.Common.{◌≡◌, ℕ, zero, suc, ◌+◌, ◌<◌, ◌≤◌, Bool, true, false, cond, not, ◌&&◌, leb, List, [], ◌∷◌, get_or, Some, sym, refl, ap, ◌∙◌, arith}
 use Rattle.std.proofs.lemmas.Bool.{ne_eqb, leb-true, and_parts}
 use Rattle.tie.specs.declared.candidate.Candidate.{Candidate}
-use Rattle.tie.specs.Rules.{Lawful, OnlyMarked, least_marked}
-use Rattle.tie.specs.Sheltered.{handed_down}
+use Rattle.tie.specs.declared.lowest_port.LowestPort.{LowestPort}
+use Rattle.tie.specs.declared.oldest_head.OldestHead.{OldestHead}
+use Rattle.tie.specs.declared.rotating.Rotating.{Rotating}
+use Rattle.tie.specs.declared.sheltering.Sheltering.{Sheltering}
+use Rattle.tie.specs.Rules.{Lawful, OnlyMarked, least_marked, lowest, nearest, turned, oldest}
+use Rattle.tie.specs.Sheltered.{handed_down, layered, told_below}
 use Rattle.tie.specs.Picking.{lawful_only}
 use Rattle.lqd.specs.Ports.{in_all, greatest, one}
 use Rattle.lqd.specs.Events.{Event, arrival, tick, begins, goes}
-use Rattle.lqd.specs.LongestQueueDrop.{State, opened, held, lost_by, candidates, enqueued, pushed_out, sent_in_all, loser, arrive, ticked}
+use Rattle.lqd.specs.LongestQueueDrop.{Meaning, State, opened, held, lost_by, candidates, enqueued, pushed_out, sent_in_all, loser, arrive, ticked}
 use Rattle.lqd.specs.Schedules.{Stock, AtFirst, Schedule}
 use Rattle.lqd.specs.Promises.{NotAlwaysBest}
 use Rattle.lqd.specs.WorkedRuns.{in_order, four_each, four_each_and_ticks, WorkedRuns}
@@ -68,20 +72,36 @@ sends_six : Schedule 2 4 (in_order four_each_and_ticks) (two 0 0 6)
 unfolding may
 sends_six = ticks 0 0 4 (comes 1 1 0 1 1 4 refl (ticks 1 0 2 (comes 1 2 0 2 1 2 refl (ticks 2 0 0 keeps_three))))
 
-pub worked : WorkedRuns
+-- the meanings of the rules
+abbrev unmoved : {R : Type 0} → R → ℕ → R
+unmoved rule v = rule
+
+abbrev by_lowest : Meaning LowestPort
+by_lowest = record { LETTER = 76; picks = lowest; after = unmoved }
+
+abbrev by_rotating : Meaning Rotating
+by_rotating = record { LETTER = 82; picks = nearest; after = turned }
+
+abbrev by_oldest : Meaning OldestHead
+by_oldest = record { LETTER = 79; picks = oldest; after = unmoved }
+
+abbrev by_layer : Meaning (Sheltering LowestPort)
+by_layer = record { LETTER = 76; picks = layered lowest; after = told_below unmoved }
+
+pub worked : WorkedRuns by_lowest by_rotating by_oldest by_layer
 unfolding in_all greatest least_marked handed_down loser arrive ticked replayed losses_in two may comes ticks keeps_three sends_six
 worked = record {
-  lowest_port = λ rule s run. (replays _ _ _ _ _ run).loses;
-  rotating = λ s run. (replays _ _ _ _ _ run).loses;
-  oldest_head = λ rule s run. (replays _ _ _ _ _ run).loses;
-  sheltered = λ rule s run. (replays _ _ _ _ _ run).loses;
-  rotating_is_told = λ s run. (replays _ _ _ _ _ run).loses;
-  tail_is_lost = λ rule s run. (replays _ _ _ _ _ run).loses;
-  head_is_sent = λ rule s run. (replays _ _ _ _ _ run).loses;
-  empty_queue_is_young = λ rule s run. (replays _ _ _ _ _ run).loses;
-  rule_is_given = λ rule s run. ap (λ s. candidates s 1) (replays _ _ _ _ _ run).state;
-  even_split = λ rule s run. let e = (replays _ _ _ _ _ run).state in (ap (λ s. held s 0) e, ap (λ s. held s 1) e, ap (λ s. lost_by s 0) e, ap (λ s. lost_by s 1) e);
-  switch_sends = λ rule s run. ap sent_in_all (replays _ _ _ _ _ run).state;
+  lowest_port = λ rule s run. (replays _ _ _ _ run).loses;
+  rotating = λ s run. (replays _ _ _ _ run).loses;
+  oldest_head = λ rule s run. (replays _ _ _ _ run).loses;
+  sheltered = λ rule s run. (replays _ _ _ _ run).loses;
+  rotating_is_told = λ s run. (replays _ _ _ _ run).loses;
+  tail_is_lost = λ rule s run. (replays _ _ _ _ run).loses;
+  head_is_sent = λ rule s run. (replays _ _ _ _ run).loses;
+  empty_queue_is_young = λ rule s run. (replays _ _ _ _ run).loses;
+  rule_is_given = λ rule s run. ap (λ s. candidates s 1) (replays _ _ _ _ run).state;
+  even_split = λ rule s run. let e = (replays _ _ _ _ run).state in (ap (λ s. held s 0) e, ap (λ s. held s 1) e, ap (λ s. lost_by s 0) e, ap (λ s. lost_by s 1) e);
+  switch_sends = λ rule s run. ap sent_in_all (replays _ _ _ _ run).state;
   schedule_sends = (two 0 0 6, sends_six, refl, refl, refl);
 }
 
@@ -98,21 +118,21 @@ only_one false (suc zero) = refl
 only_one false (suc (suc q)) = sym (ne_eqb (suc (suc q)) 1 (λ e. omega arith))
 
 -- under a rule that keeps the law
-module _ {R : Type 0} (picks : R → List Candidate → ℕ) (after : R → ℕ → R) (law : Lawful picks) where
-  picks_one : (first : Bool) (rule : R) → picks rule (one_of first) ≡ cond first 0 1
-  picks_one first rule = lawful_only picks law rule (one_of first) (cond first 0 1) (only_one first)
+module _ {R : Type 0} (meaning : Meaning R) (law : Lawful meaning.picks) where
+  picks_one : (first : Bool) (rule : R) → meaning.picks rule (one_of first) ≡ cond first 0 1
+  picks_one first rule = lawful_only meaning.picks law rule (one_of first) (cond first 0 1) (only_one first)
 
-  loses_to : (s : State R) (k x v : ℕ) → loser picks s k ≡ Some v → arrive picks after s k x ≡ pushed_out after (enqueued s k x) v
+  loses_to : (s : State R) (k x v : ℕ) → loser meaning s k ≡ Some v → arrive meaning s k x ≡ pushed_out meaning (enqueued s k x) v
   unfolding arrive
-  loses_to s k x v e = ap (outcome after s k x) e
+  loses_to s k x v e = ap (outcome meaning s k x) e
 
   -- a cell for port 1 arrives, and port v loses one
   abbrev loses : ℕ → State R → ℕ → State R
-  loses v s x = pushed_out after (enqueued s 1 x) v
+  loses v s x = pushed_out meaning (enqueued s 1 x) v
 
   -- a cell arrives for port k
   abbrev comes_to : ℕ → State R → ℕ → State R
-  comes_to k s x = arrive picks after s k x
+  comes_to k s x = arrive meaning s k x
 
   module _ (rule : R) (a b c d : ℕ) where
     -- port 0 holds 4 cells
@@ -132,11 +152,11 @@ module _ {R : Type 0} (picks : R → List Candidate → ℕ) (after : R → ℕ 
     unfolding in_all greatest loser arrive ticked four
     sends_five e f g h i j = ap (λ s. sent_in_all (ticked (comes_to 1 (ticked (comes_to 1 (ticked s) i)) j))) (splits e f g h)
 
-  pub not_always_best_lem : R → NotAlwaysBest picks after
+  pub not_always_best_lem : R → NotAlwaysBest meaning
   unfolding two replayed four
   not_always_best_lem rule always =
-      let taken = takes_every_list_lem picks after law rule 2 4 (omega arith) (in_order four_each_and_ticks) (omega arith) in
-      let replay = replays picks after rule 2 4 taken.1 in
+      let taken = takes_every_list_lem meaning law rule 2 4 (omega arith) (in_order four_each_and_ticks) (omega arith) in
+      let replay = replays meaning rule 2 4 taken.1 in
       let five : sent_in_all taken.0 ≡ 5 = ap sent_in_all replay.state ∙ sends_five rule _ _ _ _ _ _ _ _ _ _ in
       let six = always rule 2 4 (omega arith) (in_order four_each_and_ticks) taken.0 (two 0 0 6) taken.1 sends_six 0 in
       omega arith

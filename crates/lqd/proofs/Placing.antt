@@ -5,11 +5,10 @@ use Rattle.std.proofs.lemmas.List.FromFn.{fill_by_all}
 use Rattle.std.proofs.lemmas.List.{length-map, length-set, length-take, get_or-map}
 use Rattle.std.proofs.lemmas.List.Sums.{sum_by-cons, sum-map}
 use Rattle.std.proofs.lemmas.Bool.{cases_eq, cases_lt}
-use Rattle.tie.specs.declared.candidate.Candidate.{Candidate}
 use Rattle.tie.specs.Rules.{Lawful}
 use Rattle.lqd.specs.Ports.{in_all, one}
 use Rattle.lqd.specs.Events.{Event, arrival, tick, begins, goes, ForPorts}
-use Rattle.lqd.specs.LongestQueueDrop.{Held, State, opened, held, counted_length, without_tail, enqueued, cells_at, Free, PlaceFor, arrive, ticked, Step, Run}
+use Rattle.lqd.specs.LongestQueueDrop.{Meaning, Held, State, opened, held, counted_length, without_tail, enqueued, cells_at, Free, PlaceFor, arrive, ticked, Step, Run}
 use Rattle.lqd.specs.Promises.{Apart, TakesEveryList, PlacesStayApart}
 use Rattle.lqd.proofs.Sums.{sums_add, sums_same, sums_le, sums_zero, sums_one, sums_one_past, one_here, one_other, one_small, all_or_some, in_all_none, in_all_more}
 use Rattle.lqd.proofs.Queues.{lowered, at, same_queue, other_queue, joined_at, without_at, heads_at, empty_at}
@@ -95,44 +94,44 @@ module _ {R : Type 0} (n b : ℕ) where
       (apart_joined b (without_tail s.queues v) k cell (omega (arith, length-set s.queues v (take (length (get_or s.queues v []) - 1) (get_or s.queues v [])))) (subst (λ c. Free c (without_tail s.queues v) x) sound.cells (free ne)) fewer))
       (cases_eq v k)
 
-module _ {R : Type 0} (picks : R → List Candidate → ℕ) (after : R → ℕ → R) (law : Lawful picks) (n b : ℕ) (few : n ≤ 256) where
+module _ {R : Type 0} (meaning : Meaning R) (law : Lawful meaning.picks) (n b : ℕ) (few : n ≤ 256) where
   -- whatever port a cell arrives for, there is a place for it
-  place_for : (s : State R) (k : ℕ) → Sound n b s → k < n → (x : ℕ) × PlaceFor picks s k x
+  place_for : (s : State R) (k : ℕ) → Sound n b s → k < n → (x : ℕ) × PlaceFor meaning s k x
   place_for s k sound port =
-      by_loser picks law n b few s k sound (omega (arith, sound.ports)) (λ o. (x : ℕ) × Vacant s k x o)
+      by_loser meaning law n b few s k sound (omega (arith, sound.ports)) (λ o. (x : ℕ) × Vacant s k x o)
       (λ room. free_place n s.cells s.queues sound.queues (omega (arith, sound.cells)))
       (λ v full loses longest. place_given n b s k v sound port loses (longest k port))
 
-  taken : (rule : R) (es : List Event) → AllByRecursion (ForPorts n) es → (s : State R) × Run picks after rule n b es s
+  taken : (rule : R) (es : List Event) → AllByRecursion (ForPorts n) es → (s : State R) × Run meaning rule n b es s
   taken rule [] all = (opened rule n b, begins refl)
   taken rule (arrival k ∷ es) all =
       let before = taken rule es all.1 in
       let s : State R = before.0 in
-      let sound = run_sound picks after law n b few before.1 in
+      let sound = run_sound meaning law n b few before.1 in
       let place = place_for s k sound all.0 in
-      (arrive picks after s k place.0, goes before.1 (record { port = omega (arith, sound.ports, all.0); place = place.0; free = place.1; gives = refl }))
+      (arrive meaning s k place.0, goes before.1 (record { port = omega (arith, sound.ports, all.0); place = place.0; free = place.1; gives = refl }))
   taken rule (tick ∷ es) all = let before = taken rule es all.1 in (ticked before.0, goes before.1 refl)
 
-  apart_arrival : (s : State R) (k x : ℕ) → Sound n b s → k < s.ports → PlaceFor picks s k x → Apart b s.queues → Apart b (arrive picks after s k x).queues
+  apart_arrival : (s : State R) (k x : ℕ) → Sound n b s → k < s.ports → PlaceFor meaning s k x → Apart b s.queues → Apart b (arrive meaning s k x).queues
   unfolding arrive
   apart_arrival s k x sound own free apart =
       let port : k < n = omega (arith, sound.ports) in
-      by_loser picks law n b few s k sound own (λ o. Vacant s k x o → Apart b (outcome after s k x o).queues)
+      by_loser meaning law n b few s k sound own (λ o. Vacant s k x o → Apart b (outcome meaning s k x o).queues)
       (λ room free. apart_joined b s.queues k _ (omega (arith, sound.queues)) (subst (λ c. Free c s.queues x) sound.cells free) apart)
       (λ v full loses longest free. apart_lost n b s k v x sound port loses free apart)
       free
 
-  apart_step : (e : Event) (s t : State R) → Sound n b s → Step picks after s e t → Apart b s.queues → Apart b t.queues
+  apart_step : (e : Event) (s t : State R) → Sound n b s → Step meaning s e t → Apart b s.queues → Apart b t.queues
   unfolding ticked
   apart_step (arrival k) s t sound step apart = subst (λ t. Apart b t.queues) (sym step.gives) (apart_arrival s k step.place sound step.port step.free apart)
   apart_step tick s t sound step apart = subst (λ t. Apart b t.queues) (sym step) (apart_fewer b s.queues (map (drop 1) s.queues) (heads_at s.queues) apart)
 
-  apart_run : {rule : R} {es : List Event} {s : State R} → Run picks after rule n b es s → Apart b s.queues
+  apart_run : {rule : R} {es : List Event} {s : State R} → Run meaning rule n b es s → Apart b s.queues
   apart_run (begins start) = subst (λ s. Apart b s.queues) (sym start) (record { own = λ x. omega (arith, empty_at n x); below = λ x h. empty_at n x })
-  apart_run (goes {e = e} {s = s} {t = t} run step) = apart_step e s t (run_sound picks after law n b few run) step (apart_run run)
+  apart_run (goes {e = e} {s = s} {t = t} run step) = apart_step e s t (run_sound meaning law n b few run) step (apart_run run)
 
-pub takes_every_list_lem : {R : Type 0} (picks : R → List Candidate → ℕ) (after : R → ℕ → R) → Lawful picks → TakesEveryList picks after
-takes_every_list_lem picks after law rule n b few es all = taken picks after law n b few rule es all
+pub takes_every_list_lem : {R : Type 0} (meaning : Meaning R) → Lawful meaning.picks → TakesEveryList meaning
+takes_every_list_lem meaning law rule n b few es all = taken meaning law n b few rule es all
 
-pub places_stay_apart_lem : {R : Type 0} (picks : R → List Candidate → ℕ) (after : R → ℕ → R) → Lawful picks → PlacesStayApart picks after
-places_stay_apart_lem picks after law rule n b few es s run = apart_run picks after law n b few run
+pub places_stay_apart_lem : {R : Type 0} (meaning : Meaning R) → Lawful meaning.picks → PlacesStayApart meaning
+places_stay_apart_lem meaning law rule n b few es s run = apart_run meaning law n b few run

@@ -8,7 +8,7 @@ use Rattle.tie.specs.Candidates.{by_port, that_count, nobody, is_marked}
 use Rattle.tie.specs.Rules.{Lawful}
 use Rattle.lqd.specs.Ports.{in_all, greatest, one}
 use Rattle.lqd.specs.Events.{Event, arrival, tick, begins, goes}
-use Rattle.lqd.specs.LongestQueueDrop.{Held, State, opened, queue, held, offered_by, sent_by, lost_by, held_in_all, sent_in_all, counted_length, stamp, candidates, without_tail, enqueued, pushed_out, ticked, loser, arrive, Step, Run}
+use Rattle.lqd.specs.LongestQueueDrop.{Meaning, Held, State, opened, queue, held, offered_by, sent_by, lost_by, held_in_all, sent_in_all, counted_length, stamp, candidates, without_tail, enqueued, pushed_out, ticked, loser, arrive, Step, Run}
 use Rattle.lqd.proofs.Sums.{sums_same, sums_zero, sums_add, sums_one, sums_le, one_here, greatest_above, greatest_reached}
 use Rattle.lqd.proofs.Moves.{Takes, Drops, drops_held}
 use Rattle.lqd.proofs.Queues.{raised, lowered, one_more_lem, left_in_front}
@@ -131,8 +131,8 @@ module _ {R : Type 0} where
         }
 
     -- an arrival for port k that finds the memory full, where port v loses: one of the longest with the arriving cell counted in
-    lost_facts : (after : R → ℕ → R) (k x v : ℕ) → k < n → b ≤ in_all n (held s) → v < n → ((p : ℕ) → p < n → counted_length s k p ≤ counted_length s k v) → Arrived n b k s (pushed_out after (enqueued s k x) v)
-    lost_facts after k x v port full loses longest =
+    lost_facts : (meaning : Meaning R) (k x v : ℕ) → k < n → b ≤ in_all n (held s) → v < n → ((p : ℕ) → p < n → counted_length s k p ≤ counted_length s k v) → Arrived n b k s (pushed_out meaning (enqueued s k x) v)
+    lost_facts meaning k x v port full loses longest =
         let queues : List (List Held) = (enqueued s k x).queues in
         let long : length queues ≡ n = length-set s.queues k _ ∙ sound.queues in
         let some : 1 ≤ length (get_or queues v []) = omega (arith, enqueued_held k x v port, longest k port, one_here k) in
@@ -160,11 +160,11 @@ module _ {R : Type 0} where
         }
 
 -- what an arrival for port k at place x comes to, by who loses
-abbrev pub outcome : {R : Type 0} → (R → ℕ → R) → State R → ℕ → ℕ → Option ℕ → State R
-outcome after s k x o = elim o [ None ↦ enqueued s k x | Some v ↦ pushed_out after (enqueued s k x) v ]
+abbrev pub outcome : {R : Type 0} → Meaning R → State R → ℕ → ℕ → Option ℕ → State R
+outcome meaning s k x o = elim o [ None ↦ enqueued s k x | Some v ↦ pushed_out meaning (enqueued s k x) v ]
 
 -- a rule that keeps the law picks a port of the greatest counted length
-module _ {R : Type 0} (picks : R → List Candidate → ℕ) (law : Lawful picks) (s : State R) (few : s.ports ≤ 256) (k : ℕ) (port : k < s.ports) where
+module _ {R : Type 0} (meaning : Meaning R) (law : Lawful meaning.picks) (s : State R) (few : s.ports ≤ 256) (k : ℕ) (port : k < s.ports) where
   candidate : ℕ → Candidate
   candidate p = record { marked = eqb (counted_length s k p) (greatest s.ports (counted_length s k)); stamp = stamp s k p }
 
@@ -175,41 +175,41 @@ module _ {R : Type 0} (picks : R → List Candidate → ℕ) (law : Lawful picks
       let best : (p : ℕ) × (p < s.ports) × (counted_length s k p ≡ greatest s.ports (counted_length s k)) = subst (λ n. (p : ℕ) × (p < n) × (counted_length s k p ≡ greatest n (counted_length s k))) (sym m.1) (greatest_reached m.0 (counted_length s k)) in
       (best.0, marked_at s.ports few candidate best.0 best.1 ∙ eq-eqb _ _ best.2)
 
-  pick_marked : is_marked (candidates s k) (picks s.rule (candidates s k)) ≡ true
+  pick_marked : is_marked (candidates s k) (meaning.picks s.rule (candidates s k)) ≡ true
   pick_marked = law.some s.rule (candidates s k) some_marked.0 some_marked.1
 
-  pub pick_port : picks s.rule (candidates s k) < s.ports
+  pub pick_port : meaning.picks s.rule (candidates s k) < s.ports
   unfolding candidate
   pick_port = marked_below s.ports few candidate _ pick_marked
 
-  pub pick_longest : (p : ℕ) → p < s.ports → counted_length s k p ≤ counted_length s k (picks s.rule (candidates s k))
+  pub pick_longest : (p : ℕ) → p < s.ports → counted_length s k p ≤ counted_length s k (meaning.picks s.rule (candidates s k))
   unfolding candidate
   pick_longest p l =
-      let here : counted_length s k (picks s.rule (candidates s k)) ≡ greatest s.ports (counted_length s k) = eqb-true _ _ (sym (marked_at s.ports few candidate _ pick_port) ∙ pick_marked) in
+      let here : counted_length s k (meaning.picks s.rule (candidates s k)) ≡ greatest s.ports (counted_length s k) = eqb-true _ _ (sym (marked_at s.ports few candidate _ pick_port) ∙ pick_marked) in
       omega (arith, greatest_above s.ports (counted_length s k) p l)
 
-module _ {R : Type 0} (picks : R → List Candidate → ℕ) (law : Lawful picks) (n b : ℕ) (few : n ≤ 256) where
+module _ {R : Type 0} (meaning : Meaning R) (law : Lawful meaning.picks) (n b : ℕ) (few : n ≤ 256) where
   -- an arrival goes one of two ways: it finds room, or a port of the greatest counted length loses
-  pub by_loser : (s : State R) (k : ℕ) → Sound n b s → k < s.ports → (P : Option ℕ → Type 0) → (in_all n (held s) < b → P None) → ((v : ℕ) → b ≤ in_all n (held s) → v < n → ((p : ℕ) → p < n → counted_length s k p ≤ counted_length s k v) → P (Some v)) → P (loser picks s k)
+  pub by_loser : (s : State R) (k : ℕ) → Sound n b s → k < s.ports → (P : Option ℕ → Type 0) → (in_all n (held s) < b → P None) → ((v : ℕ) → b ≤ in_all n (held s) → v < n → ((p : ℕ) → p < n → counted_length s k p ≤ counted_length s k v) → P (Some v)) → P (loser meaning s k)
   unfolding loser
   by_loser s k sound port P room full =
-      let v : ℕ = picks s.rule (candidates s k) in
+      let v : ℕ = meaning.picks s.rule (candidates s k) in
       let all : held_in_all s ≡ in_all n (held s) = ap (λ m. in_all m (held s)) sound.ports in
       let small : s.ports ≤ 256 = omega (arith, sound.ports) in
       cond_both (ltb (held_in_all s) s.cells) None (Some v) P
       (λ t. room (omega (arith, ltb-true _ _ t, sound.cells)))
-      (λ f. full v (omega (arith, ltb-false _ _ f, sound.cells)) (omega (arith, pick_port picks law s small k port, sound.ports)) (λ p l. pick_longest picks law s small k port p (omega (arith, sound.ports))))
+      (λ f. full v (omega (arith, ltb-false _ _ f, sound.cells)) (omega (arith, pick_port meaning law s small k port, sound.ports)) (λ p l. pick_longest meaning law s small k port p (omega (arith, sound.ports))))
 
-module _ {R : Type 0} (picks : R → List Candidate → ℕ) (after : R → ℕ → R) (law : Lawful picks) (n b : ℕ) (few : n ≤ 256) where
-  arrive_facts : (s : State R) (k x : ℕ) → Sound n b s → k < s.ports → Arrived n b k s (arrive picks after s k x)
+module _ {R : Type 0} (meaning : Meaning R) (law : Lawful meaning.picks) (n b : ℕ) (few : n ≤ 256) where
+  arrive_facts : (s : State R) (k x : ℕ) → Sound n b s → k < s.ports → Arrived n b k s (arrive meaning s k x)
   unfolding arrive
   arrive_facts s k x sound own =
       let port : k < n = omega (arith, sound.ports) in
-      by_loser picks law n b few s k sound own (λ o. Arrived n b k s (outcome after s k x o))
+      by_loser meaning law n b few s k sound own (λ o. Arrived n b k s (outcome meaning s k x o))
       (λ room. kept_facts n b s sound k x port room)
-      (λ v full loses longest. lost_facts n b s sound after k x v port full loses longest)
+      (λ v full loses longest. lost_facts n b s sound meaning k x v port full loses longest)
 
-  pub step_facts : (e : Event) (s t : State R) → Sound n b s → Step picks after s e t → Facts n b s e t
+  pub step_facts : (e : Event) (s t : State R) → Sound n b s → Step meaning s e t → Facts n b s e t
   step_facts (arrival k) s t sound step = subst (Arrived n b k s) (sym step.gives) (arrive_facts s k step.place sound step.port)
   step_facts tick s t sound step = subst (Ticked n b s) (sym step) (tick_facts n b s sound)
 
@@ -218,7 +218,7 @@ module _ {R : Type 0} (picks : R → List Candidate → ℕ) (after : R → ℕ 
   step_sound tick s t facts = facts.sound
 
   -- every switch that can be reached has its shape
-  pub run_sound : {rule : R} {es : List Event} {s : State R} → Run picks after rule n b es s → Sound n b s
+  pub run_sound : {rule : R} {es : List Event} {s : State R} → Run meaning rule n b es s → Sound n b s
   run_sound {rule} (begins start) = subst (Sound n b) (sym start) (opened_sound rule n b)
   run_sound (goes {e = e} {s = s} {t = t} run step) = step_sound e s t (step_facts e s t (run_sound run) step)
 

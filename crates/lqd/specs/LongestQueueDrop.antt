@@ -1,4 +1,5 @@
 -- What a switch with Longest Queue Drop is, over any tie rule: what opening it, an arrival and a tick make of it. Assumes nothing.
+--     Meaning R                       the meaning of a tie rule with states R: the members of the trait TieRule, of which picks is the port that it picks and after its state once it is told of a port
 --     Held, State                     a held cell; a switch
 --     queue s p, held s p             the queue of port p, and how many cells are in it
 --     offered_by, sent_by, lost_by    the counts of a port
@@ -6,16 +7,17 @@
 --     opened rule n b                 a switch of n ports and b cells that was just opened
 --     counted_length s k p            the length of queue p that counts when a cell arrives for port k
 --     candidates s k                  what the rule is given when a cell arrives for port k
---     loser picks s k                 the port that loses a cell when one arrives for port k, if one does
---     arrive picks after s k x        an arrival for port k, put at place x
---     PlaceFor picks s k x            x is a place for the cell that arrives for port k
+--     loser meaning s k               the port that loses a cell when one arrives for port k, if one does
+--     arrive meaning s k x            an arrival for port k, put at place x
+--     PlaceFor meaning s k x          x is a place for the cell that arrives for port k
 --     ticked s                        a tick
---     Step picks after s e t          the event e makes t of s
---     Run picks after rule n b        the runs of a switch that was opened so
---     losses picks after run          what was lost in a run, of which losses_of counts the losses of a port
+--     Step meaning s e t              the event e makes t of s
+--     Run meaning rule n b            the runs of a switch that was opened so
+--     losses meaning run              what was lost in a run, of which losses_of counts the losses of a port
 use Rattle.std.specs.Prelude.{◌≡◌, ℕ, ◌+◌, ◌-◌, ◌<◌, min, cond, List, [], ◌∷◌, ◌++◌, map, length, take, drop, replicate, Some, None, sum_by, count_by, Option, ◌==◌, ◌≢◌, nat_eq, nat_lt, slice_index, slice_index_or, slice_set}
 use Rattle.tie.specs.declared.candidate.Candidate.{Candidate}
 use Rattle.tie.specs.Candidates.{by_port}
+pub use Rattle.tie.specs.declared.tie_rule.TieRule.{Ghosts as Meaning}
 use Rattle.lqd.specs.Ports.{in_all, greatest, one, one_more}
 use Rattle.lqd.specs.Events.{Event, arrival, tick, After, begins, goes}
 
@@ -108,9 +110,9 @@ module _ {R : Type 0} where
   }
 
   -- port v loses the cell at the tail of its queue, the rule is told of v, and the cell counts as lost
-  abbrev pub pushed_out : (R → ℕ → R) → State R → ℕ → State R
-  pushed_out after s v = record {
-    rule = after s.rule v;
+  abbrev pub pushed_out : Meaning R → State R → ℕ → State R
+  pushed_out meaning s v = record {
+    rule = meaning.after s.rule v;
     ports = s.ports;
     cells = s.cells;
     period = s.period;
@@ -161,11 +163,11 @@ pub record Loss : Type 0 where
 abbrev pub losses_of : ℕ → List Loss → ℕ
 losses_of p these = count_by (λ loss. nat_eq p loss.losing) these
 
--- over a rule that picks so in its states R
-module _ {R : Type 0} (picks : R → List Candidate → ℕ) where
+-- over a rule with this meaning
+module _ {R : Type 0} (meaning : Meaning R) where
   -- the port that loses a cell when one arrives for port k: none while there is room, and the rule's pick when the memory is full
   unfoldable pub loser : State R → ℕ → Option ℕ
-  loser s k = cond (nat_lt (held_in_all s) s.cells) None (Some (picks s.rule (candidates s k)))
+  loser s k = cond (nat_lt (held_in_all s) s.cells) None (Some (meaning.picks s.rule (candidates s k)))
 
   -- x is a place for the cell that arrives for port k: a free one, or one that is free once another port has lost its cell; where the arriving cell itself is lost, it needs none
   abbrev pub PlaceFor : State R → ℕ → ℕ → Type 0
@@ -176,29 +178,27 @@ module _ {R : Type 0} (picks : R → List Candidate → ℕ) where
   lost_in s (arrival k) = elim (loser s k) [ None ↦ [] | Some v ↦ record { period = s.period; arriving = k; losing = v } ∷ [] ]
   lost_in s tick = []
 
-  -- and that a port which loses a cell moves so
-  module _ (after : R → ℕ → R) where
-    -- an arrival for port k, put at place x: the cell joins its queue, and the loser, if there is one, loses its tail: the arriving cell itself where the loser is k
-    unfoldable pub arrive : State R → ℕ → ℕ → State R
-    arrive s k x = elim (loser s k) [ None ↦ enqueued s k x | Some v ↦ pushed_out after (enqueued s k x) v ]
+  -- an arrival for port k, put at place x: the cell joins its queue, and the loser, if there is one, loses its tail: the arriving cell itself where the loser is k
+  unfoldable pub arrive : State R → ℕ → ℕ → State R
+  arrive s k x = elim (loser s k) [ None ↦ enqueued s k x | Some v ↦ pushed_out meaning (enqueued s k x) v ]
 
-    -- an arrival for one of the ports, at some place for it, makes t of s
-    pub record Arrives (s : State R) (k : ℕ) (t : State R) : Type 0 where
-      pub port : k < s.ports
-      pub place : ℕ
-      pub free : PlaceFor s k place
-      pub gives : t ≡ arrive s k place
+  -- an arrival for one of the ports, at some place for it, makes t of s
+  pub record Arrives (s : State R) (k : ℕ) (t : State R) : Type 0 where
+    pub port : k < s.ports
+    pub place : ℕ
+    pub free : PlaceFor s k place
+    pub gives : t ≡ arrive s k place
 
-    -- an event makes t of s
-    abbrev pub Step : State R → Event → State R → Type 0
-    Step s (arrival k) t = Arrives s k t
-    Step s tick t = t ≡ ticked s
+  -- an event makes t of s
+  abbrev pub Step : State R → Event → State R → Type 0
+  Step s (arrival k) t = Arrives s k t
+  Step s tick t = t ≡ ticked s
 
-    -- the runs of a switch of n ports and b cells, opened with this state of its rule
-    abbrev pub Run : R → ℕ → ℕ → List Event → State R → Type 0
-    Run rule n b es s = After (λ start. start ≡ opened rule n b) Step es s
+  -- the runs of a switch of n ports and b cells, opened with this state of its rule
+  abbrev pub Run : R → ℕ → ℕ → List Event → State R → Type 0
+  Run rule n b es s = After (λ start. start ≡ opened rule n b) Step es s
 
-    -- what was lost in a run, the first loss first
-    abbrev pub losses : {rule : R} {n b : ℕ} {es : List Event} {s : State R} → Run rule n b es s → List Loss
-    losses (begins start) = []
-    losses (goes {e = e} {s = s} run step) = losses run ++ lost_in s e
+  -- what was lost in a run, the first loss first
+  abbrev pub losses : {rule : R} {n b : ℕ} {es : List Event} {s : State R} → Run rule n b es s → List Loss
+  losses (begins start) = []
+  losses (goes {e = e} {s = s} run step) = losses run ++ lost_in s e

@@ -1,4 +1,4 @@
--- What is promised of every switch with Longest Queue Drop, whatever its tie rule: picks and after are the meaning of the rule, over its states R. Assumes nothing. A switch has n ports, at most 256, and b cells.
+-- What is promised of every switch with Longest Queue Drop, whatever its tie rule: over the meaning of the rule, with its states R. Assumes nothing. A switch has n ports, at most 256, and b cells.
 --     Always P                     P holds at every point of every list of events, of every switch and every admissible schedule
 --     NeverHalfAsGood              no schedule has sent more than twice what the switch has sent
 --     NeverHalfAsGoodWithHeld      nor is its sent plus held more than twice that of the switch
@@ -14,10 +14,9 @@
 --     OnlyPlacesAreFree            the events decide all but the places
 use Rattle.std.specs.Prelude.{◌≡◌, ℕ, ◌+◌, ◌*◌, ◌/◌, ◌<◌, ◌≤◌, List, map, take, drop}
 use Rattle.std.specs.List.{AllByRecursion}
-use Rattle.tie.specs.declared.candidate.Candidate.{Candidate}
 use Rattle.lqd.specs.Ports.{in_all}
 use Rattle.lqd.specs.Events.{Event, ago, arrivals_for, ticks_in, IsArrival, ForPorts, ArrivalsFirst}
-use Rattle.lqd.specs.LongestQueueDrop.{Held, State, Loss, queue, held, offered_by, sent_by, lost_by, held_in_all, sent_in_all, cells_at, losses_of, Step, Run, losses}
+use Rattle.lqd.specs.LongestQueueDrop.{Meaning, Held, State, Loss, queue, held, offered_by, sent_by, lost_by, held_in_all, sent_in_all, cells_at, losses_of, Step, Run, losses}
 use Rattle.lqd.specs.Schedules.{Stock, Schedule}
 
 -- every held cell has a place of its own, below b
@@ -57,10 +56,10 @@ module _ {R : Type 0} where
     lost = s.lost;
   }
 
-module _ {R : Type 0} (picks : R → List Candidate → ℕ) (after : R → ℕ → R) where
+module _ {R : Type 0} (meaning : Meaning R) where
   -- at every point of every list of events, P holds of the events so far, of every switch that took them and of every admissible schedule of them in the same memory
   abbrev pub Always : (List Event → State R → Stock → Type 0) → Type 0
-  Always P = (rule : R) (n b : ℕ) → n ≤ 256 → (es : List Event) (s : State R) (o : Stock) (run : Run picks after rule n b es s) (schedule : Schedule n b es o) (i : ℕ) → P (drop i es) (ago run i) (ago schedule i)
+  Always P = (rule : R) (n b : ℕ) → n ≤ 256 → (es : List Event) (s : State R) (o : Stock) (run : Run meaning rule n b es s) (schedule : Schedule n b es o) (i : ℕ) → P (drop i es) (ago run i) (ago schedule i)
 
   -- the schedule has sent at most twice what the switch has sent
   abbrev pub NeverHalfAsGood : Type 0
@@ -84,11 +83,11 @@ module _ {R : Type 0} (picks : R → List Candidate → ℕ) (after : R → ℕ 
 
   -- P holds of every run: of the ports, the cells, the events, the switch that took them, and the cells that were lost
   abbrev pub InEveryRun : (ℕ → ℕ → List Event → State R → List Loss → Type 0) → Type 0
-  InEveryRun P = (rule : R) (n b : ℕ) → n ≤ 256 → (es : List Event) (s : State R) (run : Run picks after rule n b es s) → P n b es s (losses picks after run)
+  InEveryRun P = (rule : R) (n b : ℕ) → n ≤ 256 → (es : List Event) (s : State R) (run : Run meaning rule n b es s) → P n b es s (losses meaning run)
 
   -- whatever event comes next, a port that loses a cell in it loses it so
   abbrev pub LosesOnlyWhenFull : Type 0
-  LosesOnlyWhenFull = InEveryRun (λ n b es s these. (e : Event) (t : State R) → Step picks after s e t → (v : ℕ) → lost_by s v < lost_by t v → FairLoss n b v s e t)
+  LosesOnlyWhenFull = InEveryRun (λ n b es s these. (e : Event) (t : State R) → Step meaning s e t → (v : ℕ) → lost_by s v < lost_by t v → FairLoss n b v s e t)
 
   -- the period is the number of ticks, and the counts of every port add up
   abbrev pub CountsAddUp : Type 0
@@ -96,11 +95,11 @@ module _ {R : Type 0} (picks : R → List Candidate → ℕ) (after : R → ℕ 
 
   -- in the same memory and in any larger one, some admissible schedule has at every point what the switch has
   abbrev pub IsItselfAdmissible : Type 0
-  IsItselfAdmissible = (rule : R) (n b : ℕ) → n ≤ 256 → (es : List Event) (s : State R) (run : Run picks after rule n b es s) (c : ℕ) → b ≤ c → (schedule : Schedule n c es (as_stock s)) × ((i : ℕ) → ago schedule i ≡ as_stock (ago run i))
+  IsItselfAdmissible = (rule : R) (n b : ℕ) → n ≤ 256 → (es : List Event) (s : State R) (run : Run meaning rule n b es s) (c : ℕ) → b ≤ c → (schedule : Schedule n c es (as_stock s)) × ((i : ℕ) → ago schedule i ≡ as_stock (ago run i))
 
   -- there is a run for every list of events whose arrivals are for the n ports: no event finds the switch without a place for its cell
   abbrev pub TakesEveryList : Type 0
-  TakesEveryList = (rule : R) (n b : ℕ) → n ≤ 256 → (es : List Event) → AllByRecursion (ForPorts n) es → (s : State R) × Run picks after rule n b es s
+  TakesEveryList = (rule : R) (n b : ℕ) → n ≤ 256 → (es : List Event) → AllByRecursion (ForPorts n) es → (s : State R) × Run meaning rule n b es s
 
   -- no two held cells have one place
   abbrev pub PlacesStayApart : Type 0
@@ -108,4 +107,4 @@ module _ {R : Type 0} (picks : R → List Candidate → ℕ) (after : R → ℕ 
 
   -- two runs through the same events, from the same opening, come to the same switch but for the places, and have lost the same cells
   abbrev pub OnlyPlacesAreFree : Type 0
-  OnlyPlacesAreFree = (rule : R) (n b : ℕ) (es : List Event) (s t : State R) (run : Run picks after rule n b es s) (other : Run picks after rule n b es t) → (without_places s ≡ without_places t) × (losses picks after run ≡ losses picks after other)
+  OnlyPlacesAreFree = (rule : R) (n b : ℕ) (es : List Event) (s t : State R) (run : Run meaning rule n b es s) (other : Run meaning rule n b es t) → (without_places s ≡ without_places t) × (losses meaning run ≡ losses meaning other)

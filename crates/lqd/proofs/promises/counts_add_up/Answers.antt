@@ -2,4 +2,4 @@ use Rattle.lqd.proofs.Counting.{counts_add_up_lem}
 use Rattle.lqd.proofs.promises.counts_add_up.Goals as goal
 
 pub returns : goal.returns
-returns g c = counts_add_up_lem g.R.TieRule.picks g.R.TieRule.after g.met.R.TieRule.lawful
+returns g c = counts_add_up_lem g.R.TieRule g.met.R.TieRule.lawful

@@ -2,4 +2,4 @@ use Rattle.lqd.proofs.Counting.{itself_admissible}
 use Rattle.lqd.proofs.promises.is_itself_admissible.Goals as goal
 
 pub returns : goal.returns
-returns g c = itself_admissible g.R.TieRule.picks g.R.TieRule.after g.met.R.TieRule.lawful
+returns g c = itself_admissible g.R.TieRule g.met.R.TieRule.lawful

@@ -3,7 +3,5 @@ use Rattle.lqd.proofs.promises.never_half_as_good_with_held.Goals as goal
 
 pub returns : goal.returns
 returns g c =
-    let picks = g.R.TieRule.picks in
-    let after = g.R.TieRule.after in
     let law = g.met.R.TieRule.lawful in
-    record { twice = never_half_with_held picks after law; once = held_once picks after law }
+    record { twice = never_half_with_held g.R.TieRule law; once = held_once g.R.TieRule law }

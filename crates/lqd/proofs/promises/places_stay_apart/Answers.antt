@@ -2,4 +2,4 @@ use Rattle.lqd.proofs.Placing.{places_stay_apart_lem}
 use Rattle.lqd.proofs.promises.places_stay_apart.Goals as goal
 
 pub returns : goal.returns
-returns g c = places_stay_apart_lem g.R.TieRule.picks g.R.TieRule.after g.met.R.TieRule.lawful
+returns g c = places_stay_apart_lem g.R.TieRule g.met.R.TieRule.lawful

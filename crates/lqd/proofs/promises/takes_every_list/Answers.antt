@@ -2,4 +2,4 @@ use Rattle.lqd.proofs.Placing.{takes_every_list_lem}
 use Rattle.lqd.proofs.promises.takes_every_list.Goals as goal
 
 pub returns : goal.returns
-returns g c = takes_every_list_lem g.R.TieRule.picks g.R.TieRule.after g.met.R.TieRule.lawful
+returns g c = takes_every_list_lem g.R.TieRule g.met.R.TieRule.lawful
