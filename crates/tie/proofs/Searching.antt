@@ -1,14 +1,12 @@
 -- What a search through the candidates finds is the marked port with the smallest key, and there is just one. Assumes nothing.
-use Rattle.std.proofs.Common.{◌≡◌, ◌≢◌, ℕ, ◌+◌, ◌<◌, ◌≤◌, Bool, true, false, cond, List, [], ◌∷◌, ◌++◌, filter, length, min, take, slice_index_or, Some, None, Option, ⊎_elim, unwrap_or, append-nil, sym, ap, ◌∙◌, subst, refl, arith}
-use Rattle.std.specs.List.{range_with_len}
+use Rattle.std.proofs.Common.{◌≡◌, ◌≢◌, ℕ, ◌+◌, ◌<◌, ◌≤◌, Bool, true, false, cond, List, [], ◌∷◌, ◌++◌, length, min, take, slice_index_or, Some, None, Option, ⊎_elim, unwrap_or, append-nil, sym, ap, ◌∙◌, subst, refl, arith}
 use Rattle.std.proofs.lemmas.Bool.{both_ways, cases_Bool, cases_lt}
-use Rattle.std.proofs.lemmas.List.{map-id, take_min}
-use Rattle.std.proofs.lemmas.List.FromFn.{filter_of_map_range_with_len_more}
+use Rattle.std.proofs.lemmas.List.{take_min}
 use Rattle.std.proofs.lemmas.List.Sums.{fold_push}
 use Rattle.tie.specs.declared.candidate.Candidate.{Candidate}
 use Rattle.tie.specs.Candidates.{that_count, nobody, is_marked}
 use Rattle.tie.specs.Rules.{smaller, smallest, least_marked, picked, Chosen}
-use Rattle.tie.specs.Picking.{refuted, few, counts, Best, Sofar, chosen_none, chosen_sofar, sofar_least, chosen_picked}
+use Rattle.tie.specs.Picking.{refuted, few, counts, Best, Sofar, ports, ports_more, chosen_none, chosen_sofar, sofar_least, chosen_picked}
 
 pub not_less : (p q : ℕ) → (p < q → ⊥) → q ≤ p
 not_less p q h = ⊎_elim (λ (l : p < q). absurd (h l)) (λ (l : q ≤ p). l) (cases_lt p q)
@@ -23,20 +21,12 @@ counted_front cs n is =
 pub not_below : (f : ℕ → Bool) (p : ℕ) → ((q : ℕ) → q < p → f q ≡ false) → (q : ℕ) → f q ≡ true → p ≤ q
 not_below f p fails q e = ⊎_elim (λ (l : q < p). absurd (both_ways (f q) (fails q l) e)) (λ (h : p ≤ q). h) (cases_lt q p)
 
--- the marked ports below i
-unfoldable pub ports : (ℕ → Bool) → ℕ → List ℕ
-ports m i = filter m (range_with_len 0 i)
-
 -- of port i and the best so far, the one with the smaller key
 abbrev pub kept : (ℕ → ℕ) → Option ℕ → ℕ → ℕ
 kept key None i = i
 kept key (Some b) i = smaller key b i
 
 module _ (m : ℕ → Bool) (key : ℕ → ℕ) where
-  ports_more : (i : ℕ) → ports m (i + 1) ≡ ports m i ++ cond (m i) (i ∷ []) []
-  unfolding ports
-  ports_more i = simp map-id at (filter_of_map_range_with_len_more m (λ (k : ℕ). k) 0 i i (omega arith))
-
   smallest_push : (b : Bool) (ps : List ℕ) (i : ℕ) → smallest key (ps ++ cond b (i ∷ []) []) ≡ cond b (Some (kept key (smallest key ps) i)) (smallest key ps)
   smallest_push true [] i = refl
   smallest_push true (p ∷ ps) i = ap (λ (b : ℕ). Some b) (fold_push (smaller key) p ps i)
@@ -44,7 +34,7 @@ module _ (m : ℕ → Bool) (key : ℕ → ℕ) where
 
   -- the best of the marked ports below i + 1 is that of those below i, or i
   pub smallest_more : (i : ℕ) → smallest key (ports m (i + 1)) ≡ cond (m i) (Some (kept key (smallest key (ports m i)) i)) (smallest key (ports m i))
-  smallest_more i = ap (smallest key) (ports_more i) ∙ smallest_push (m i) (ports m i) i
+  smallest_more i = ap (smallest key) (ports_more m i) ∙ smallest_push (m i) (ports m i) i
 
   -- b is the best where every marked port before it has a greater key
   pub best_by : (i b : ℕ) → b < i → m b ≡ true → ((q : ℕ) → q < i → m q ≡ true → key b ≤ key q) → ((q : ℕ) → q < b → m q ≡ true → key b < key q) → Best m key i b

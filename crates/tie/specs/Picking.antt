@@ -4,8 +4,7 @@ use Rattle.std.proofs.Math.Path.{sym, ap, subst}
 use Rattle.std.proofs.Common.{◌∙◌, ⊎_elim, append-nil, add-one, arith, below_more}
 use Rattle.std.specs.List.{range_with_len}
 use Rattle.std.specs.Option.{unwrap_or}
-use Rattle.std.proofs.lemmas.List.FromFn.{map-range_with_len_more}
-use Rattle.std.proofs.lemmas.List.Elements.{filter-append}
+use Rattle.std.proofs.lemmas.List.FromFn.{filter_of_map_range_with_len_more}
 use Rattle.std.proofs.lemmas.List.{map-id, length-take, get_or_past}
 use Rattle.std.proofs.lemmas.List.Sums.{fold_push}
 use Rattle.std.proofs.lemmas.Bool.{cases_lt, both_ways, ltb-true, ltb-false, eq-eqb, eqb-true, cond_both}
@@ -36,6 +35,14 @@ pub record Best (m : ℕ → Bool) (key : ℕ → ℕ) (i b : ℕ) : Type 0 wher
 abbrev pub Sofar : (ℕ → Bool) → (ℕ → ℕ) → ℕ → Option ℕ → Type 0
 Sofar m key i None = (q : ℕ) → q < i → m q ≡ false
 Sofar m key i (Some b) = Best m key i b
+
+-- the marked ports below i
+unfoldable pub ports : (ℕ → Bool) → ℕ → List ℕ
+ports m i = filter m (range_with_len 0 i)
+
+pub ports_more : (m : ℕ → Bool) (i : ℕ) → ports m (i + 1) ≡ ports m i ++ cond (m i) (i ∷ []) []
+unfolding ports
+ports_more m i = simp map-id at (filter_of_map_range_with_len_more m (λ (k : ℕ). k) 0 i i (omega arith))
 
 module _ (m : ℕ → Bool) (key : ℕ → ℕ) where
   -- what is said of the ports below i + 1, from what is said of those below i and of i itself
@@ -83,26 +90,17 @@ module _ (m : ℕ → Bool) (key : ℕ → ℕ) where
   smallest_push i e [] s = best_first i s e
   smallest_push i e (p ∷ ps) s = subst (Best m key (i + 1)) (sym (fold_push (smaller key) p ps i)) (best_more i (fold (smaller key) p ps) s e)
 
-  -- the marked ports below i
-  ports : ℕ → List ℕ
-  ports i = filter m (range_with_len 0 i)
-
-  ports_more : (i : ℕ) → ports (suc i) ≡ ports i ++ cond (m i) (i ∷ []) []
-  unfolding ports
-  ports_more i =
-      let more : range_with_len 0 (i + 1) ≡ range_with_len 0 i ++ i ∷ [] = sym (map-id (range_with_len 0 (i + 1))) ∙ map-range_with_len_more (λ (k : ℕ). k) 0 i i (omega arith) ∙ ap (λ l. l ++ i ∷ []) (map-id (range_with_len 0 i)) in
-      ap (λ n. filter m (range_with_len 0 n)) (sym (add-one i)) ∙ ap (filter m) more ∙ filter-append m (range_with_len 0 i) (i ∷ [])
-
-  sofar_ports : (i : ℕ) → Sofar m key i (smallest key (ports i))
+  -- the first of the marked ports below i with the smallest key is the best
+  sofar_ports : (i : ℕ) → Sofar m key i (smallest key (ports m i))
   unfolding ports
   sofar_ports zero = λ q l. absurd (omega arith)
   sofar_ports (suc i) =
-      let before : Sofar m key i (smallest key (ports i)) = sofar_ports i in
-      subst (λ j. Sofar m key j (smallest key (ports (suc i)))) (add-one i)
-      (subst (λ ps. Sofar m key (i + 1) (smallest key ps)) (sym (ports_more i))
-      (cond_both (m i) (i ∷ []) [] (λ qs. Sofar m key (i + 1) (smallest key (ports i ++ qs)))
-      (λ e. smallest_push i e (ports i) before)
-      (λ e. subst (λ ps. Sofar m key (i + 1) (smallest key ps)) (sym (append-nil (ports i))) (sofar_passes i (smallest key (ports i)) before e))))
+      let before : Sofar m key i (smallest key (ports m i)) = sofar_ports i in
+      subst (λ n. Sofar m key n (smallest key (ports m n))) (add-one i)
+      (subst (λ ps. Sofar m key (i + 1) (smallest key ps)) (sym (ports_more m i))
+      (cond_both (m i) (i ∷ []) [] (λ qs. Sofar m key (i + 1) (smallest key (ports m i ++ qs)))
+      (λ e. smallest_push i e (ports m i) before)
+      (λ e. subst (λ ps. Sofar m key (i + 1) (smallest key ps)) (sym (append-nil (ports m i))) (sofar_passes i (smallest key (ports m i)) before e))))
 
 -- where no port is marked, 256 is
 pub chosen_none : (key : ℕ → ℕ) (cs : List Candidate) → ((q : ℕ) → is_marked cs q ≢ true) → Chosen key cs 256

@@ -5,10 +5,11 @@ ghost use Rattle.tie.specs.Candidates.{that_count};
 // The most ports that a switch has, and so the most candidates that count.
 pub const MAX_PORTS: usize = 256;
 
-// The pick where no port is marked.
+// The pick where no port is marked. What a rule means is defined over numbers, 256 for none, and a pick answers that.
 pub const NO_PORT: usize = 256;
 
-// A port as a tie rule sees it: marked or not, and the stamp of the cell at the head of its queue.
+// A port as a tie rule sees it: marked or not, and the stamp of the cell at the head of its queue, which is there in
+// either case.
 #[derive(Clone, Copy, PartialEq, Eq, Debug)]
 pub struct Candidate {
     marked: bool,

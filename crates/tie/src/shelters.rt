@@ -28,7 +28,9 @@ impl Shelters {
         self.sheltered[port] = yes;
     }
 
-    // The candidates that count as they go to the rule below, in the first places of a table of 256.
+    // The candidates that count as they go to the rule below, in the first places of a table of 256: a rule takes no
+    // memory, and a list of that length needs some. Written by index, since a proof knows nothing of what was written
+    // through an iterator.
     #[tactic(auto, using(crate::proofs::HandingDown::down_more))]
     pub(crate) fn hand_down(&self, candidates: &[Candidate]) -> [Candidate; 256]
         ensures len { length result ≡ 256 }

@@ -10,7 +10,7 @@ use crate::candidate::Candidate;
 // marked, and 256 otherwise); `pick` alters nothing, since it is only lent the rule; `told` makes of the state what
 // `after` says; and the rule has one letter. No call refuses, whatever it is handed.
 pub trait TieRule {
-    // The letter that stands for the rule in a report.
+    // The letter that stands for the rule in a report, as the octet that is written.
     const LETTER: u8;
 
     // The same letter, where a clause can name it.
@@ -26,7 +26,7 @@ pub trait TieRule {
     fn pick(&self, candidates: &[Candidate]) -> usize
         ensures value { result ≡ picks self.now candidates.now };
 
-    // Tells the rule which port has lost a cell.
+    // Tells the rule which port has lost a cell. It has no body here: whether a rule moves is for the rule to say.
     fn told(&mut self, port: usize)
         ensures after { self.new ≡ after self.old port };
 

@@ -5,7 +5,7 @@ use refusal::Refusal;
 use std::error::Error;
 use std::fmt;
 
-// The first line of a trace that is refused.
+// The first line of a trace that is refused. Its fields are answered by a method each, so that nobody else can make one.
 #[derive(Clone, Copy, PartialEq, Eq, Debug)]
 pub struct Damage {
     pub(crate) line: usize,

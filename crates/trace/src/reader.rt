@@ -41,6 +41,7 @@ pub(crate) fn opening(line: &[u8]) -> Result<(Rule, usize, usize), Refusal>
     if !(1..=4096).contains(&cells) {
         return Err(Refusal::CellCount);
     }
+    // `as`, since a `usize` has no `From` of a `u32`
     Ok((rule, ports as usize, cells as usize))
 }
 
@@ -51,6 +52,7 @@ pub fn event(line: &[u8]) -> Result<Event, Refusal>
     ensures law { ReadsBack IsEvent line.now result }
 {
     let line = shaped(line)?;
+    // Each letter is another format, and there are no more of them.
     match line[0] {
         b'A' => arrival(line),
         b'T' => tick(line),

@@ -4,7 +4,8 @@ use Rattle.std.proofs.lemmas.Bool.{cond-true, cond-false, cond_both}
 use Rattle.tie.specs.declared.candidate.Candidate.{Candidate}
 use Rattle.tie.specs.Candidates.{nobody, that_count, stamp_of, is_marked}
 use Rattle.tie.specs.Rules.{least_marked}
-use Rattle.tie.proofs.Searching.{ports, kept, smallest_more}
+use Rattle.tie.specs.Picking.{ports}
+use Rattle.tie.proofs.Searching.{kept, smallest_more}
 use Rattle.tie.proofs.oldest_head.oldest_marked.Goals as goal
 use Rattle.tie.proofs.oldest_head.oldest_marked.Goals.{then-is_marked+then-is_none_or, else-is_marked, else-is_marked-via-then-is_marked+else-is_none_or, else-is_marked-via-else-is_marked}
 
