@@ -4,8 +4,7 @@
 ghost use Rattle.std.specs.Prelude.{◌≡◌};
 ghost use Rattle.refusal.specs.Table.{number_of, column_of};
 
-use std::error::Error;
-use std::fmt;
+use thiserror::Error;
 
 #[cfg(test)]
 mod tests;
@@ -17,25 +16,44 @@ pub enum FieldPlace {
     Second,
 }
 
-#[derive(Clone, Copy, PartialEq, Eq, Debug)]
+// Why a call refused; in words, for a person, by `Display`.
+#[derive(Clone, Copy, PartialEq, Eq, Debug, Error)]
 pub enum Refusal {
+    #[error("the number of ports is outside 1 to 256")]
     PortCount,
+    #[error("the number of cells is outside 1 to 4096")]
     CellCount,
+    #[error("the switch is not in the state for this call")]
     NotInState,
+    #[error("the port is at or above the number of ports")]
     NoSuchPort,
+    #[error("fewer places were handed than the switch has cells")]
     FewPlaces,
+    #[error("the switch has taken its 90000000 events")]
     EventsSpent,
+    #[error("the sent list or the marks are shorter than the number of ports")]
     ShortLists,
+    #[error("the line is not 18 octets that end in octet 10")]
     LineShape,
+    #[error("the letter is not one that may stand here")]
     Letter,
+    #[error("the field does not show a number, or is not blank on a T line")]
     Field(FieldPlace),
+    #[error("the text space is too short")]
     ShortText,
+    #[error("no loss spell is left")]
     NoSpellLeft,
+    #[error("the id is at or above the heap's capacity")]
     IdBeyondCapacity,
+    #[error("the id is in use")]
     IdInUse,
+    #[error("the id is not in use")]
     IdNotInUse,
+    #[error("the heap is empty")]
     EmptyHeap,
+    #[error("the port to shelter is above 255")]
     ShelterPort,
+    #[error("the number is above 99999999")]
     NumberTooLarge,
 }
 
@@ -77,37 +95,4 @@ impl Refusal {
             _ => 0,
         }
     }
-
-    fn meaning(&self) -> &'static str {
-        match self {
-            Refusal::PortCount => "the number of ports is outside 1 to 256",
-            Refusal::CellCount => "the number of cells is outside 1 to 4096",
-            Refusal::NotInState => "the switch is not in the state for this call",
-            Refusal::NoSuchPort => "the port is at or above the number of ports",
-            Refusal::FewPlaces => "fewer places were handed than the switch has cells",
-            Refusal::EventsSpent => "the switch has taken its 90000000 events",
-            Refusal::ShortLists =>
-                "the sent list or the marks are shorter than the number of ports",
-            Refusal::LineShape => "the line is not 18 octets that end in octet 10",
-            Refusal::Letter => "the letter is not one that may stand here",
-            Refusal::Field(_) => "the field does not show a number, or is not blank on a T line",
-            Refusal::ShortText => "the text space is too short",
-            Refusal::NoSpellLeft => "no loss spell is left",
-            Refusal::IdBeyondCapacity => "the id is at or above the heap's capacity",
-            Refusal::IdInUse => "the id is in use",
-            Refusal::IdNotInUse => "the id is not in use",
-            Refusal::EmptyHeap => "the heap is empty",
-            Refusal::ShelterPort => "the port to shelter is above 255",
-            Refusal::NumberTooLarge => "the number is above 99999999",
-        }
-    }
 }
-
-// The refusal in words, for a person.
-impl fmt::Display for Refusal {
-    fn fmt<W: fmt::Write>(&self, f: &mut fmt::Formatter<W>) -> fmt::Result {
-        f.write_str(self.meaning())
-    }
-}
-
-impl Error for Refusal {}

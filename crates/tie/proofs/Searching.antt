@@ -27,14 +27,14 @@ kept key None i = i
 kept key (Some b) i = smaller key b i
 
 module _ (m : ℕ → Bool) (key : ℕ → ℕ) where
-  smallest_push : (b : Bool) (ps : List ℕ) (i : ℕ) → smallest key (ps ++ cond b (i ∷ []) []) ≡ cond b (Some (kept key (smallest key ps) i)) (smallest key ps)
-  smallest_push true [] i = refl
-  smallest_push true (p ∷ ps) i = ap (λ (b : ℕ). Some b) (fold_push (smaller key) p ps i)
-  smallest_push false ps i = ap (smallest key) (append-nil ps)
+  smallest_kept : (b : Bool) (ps : List ℕ) (i : ℕ) → smallest key (ps ++ cond b (i ∷ []) []) ≡ cond b (Some (kept key (smallest key ps) i)) (smallest key ps)
+  smallest_kept true [] i = refl
+  smallest_kept true (p ∷ ps) i = ap (λ (b : ℕ). Some b) (fold_push (smaller key) p ps i)
+  smallest_kept false ps i = ap (smallest key) (append-nil ps)
 
   -- the best of the marked ports below i + 1 is that of those below i, or i
   pub smallest_more : (i : ℕ) → smallest key (ports m (i + 1)) ≡ cond (m i) (Some (kept key (smallest key (ports m i)) i)) (smallest key (ports m i))
-  smallest_more i = ap (smallest key) (ports_more m i) ∙ smallest_push (m i) (ports m i) i
+  smallest_more i = ap (smallest key) (ports_more m i) ∙ smallest_kept (m i) (ports m i) i
 
   -- b is the best where every marked port before it has a greater key
   pub best_by : (i b : ℕ) → b < i → m b ≡ true → ((q : ℕ) → q < i → m q ≡ true → key b ≤ key q) → ((q : ℕ) → q < b → m q ≡ true → key b < key q) → Best m key i b
@@ -66,7 +66,7 @@ chosen_unique key cs p q a b = ⊎_elim
     a.none h ∙ sym (b.none h))
     (cases_Bool (is_marked cs p))
 
--- the answer r to a search for the marked port with the smallest key, as contracts state it
+-- the answer r to a search is the marked port with the smallest key, by its definition and as said of all marked ports
 abbrev pub Finds : (ℕ → ℕ) → List Candidate → Option ℕ → Type 0
 Finds key cs r = record { value : r ≡ least_marked key cs; law : Chosen key cs (unwrap_or r 256) }
 
@@ -111,13 +111,13 @@ pub is_least : (key : ℕ → ℕ) (cs : List Candidate) (r : Option ℕ) → (r
 is_least key cs None none some = sofar_is_least key cs None (none refl)
 is_least key cs (Some p) none some = sofar_is_least key cs (Some p) (some p refl)
 
--- the first marked port is the one with the smallest number
+-- so it is the best by its number
 pub first_is_best : (cs : List Candidate) (p : ℕ) → is_marked cs p ≡ true → ((q : ℕ) → q < p → is_marked cs q ≡ false) → Best (is_marked cs) (λ q. q) (length (that_count cs)) p
 first_is_best cs p here before =
     best_by (is_marked cs) (λ q. q) (length (that_count cs)) p (counts cs p here) here
     (λ q l t. not_below (is_marked cs) p before q t)
     (λ q h t. absurd (both_ways (is_marked cs q) (before q h) t))
 
--- what is picked by a key is chosen
+-- so is an answer that equals it
 pub chosen_by : (key : ℕ → ℕ) (cs : List Candidate) (p : ℕ) → p ≡ picked key cs → Chosen key cs p
 chosen_by key cs p is = subst (Chosen key cs) (sym is) (chosen_picked key cs)

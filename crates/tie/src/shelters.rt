@@ -50,7 +50,7 @@ impl Shelters {
 
     // Whether a marked candidate that counts is not sheltered.
     fn exposes(&self, candidates: &[Candidate]) -> bool
-        ensures value { result ≡ exposes self.now.sheltered candidates.now }
+        ensures { result ≡ exposes self.now.sheltered candidates.now }
     {
         let mut ports = candidates.iter().zip(&self.sheltered);
         ports.any(|(candidate, sheltered)| candidate.is_marked() && !*sheltered)

@@ -2,11 +2,11 @@
 ghost use Rattle.std.specs.Prelude.{◌≡◌};
 
 use refusal::Refusal;
-use std::error::Error;
-use std::fmt;
+use thiserror::Error;
 
 // The first line of a trace that is refused. Its fields are answered by a method each, so that nobody else can make one.
-#[derive(Clone, Copy, PartialEq, Eq, Debug)]
+#[derive(Clone, Copy, PartialEq, Eq, Debug, Error)]
+#[error("line {line}: {refusal}")]
 pub struct Damage {
     pub(crate) line: usize,
     pub(crate) refusal: Refusal,
@@ -26,12 +26,3 @@ impl Damage {
         self.refusal
     }
 }
-
-// The line and the refusal in words, for a person.
-impl fmt::Display for Damage {
-    fn fmt<W: fmt::Write>(&self, f: &mut fmt::Formatter<W>) -> fmt::Result {
-        write!(f, "line {}: {}", self.line, self.refusal)
-    }
-}
-
-impl Error for Damage {}

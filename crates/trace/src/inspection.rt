@@ -6,7 +6,7 @@ ghost use Rattle.trace.specs.Inspection.{event_for, Inspected, AddsUp};
 
 use crate::damage::Damage;
 use crate::events::Event;
-use crate::lines::cut;
+use crate::lines::{cut, ends_line};
 use crate::reader::{event, opening};
 use crate::summary::Summary;
 use refusal::Refusal;
@@ -28,7 +28,7 @@ pub fn inspect(text: &[u8]) -> Result<Summary, Damage>
         ticks: 0,
         tally: [0; 256],
     };
-    for line in rest.split_inclusive(|octet| *octet == b'\n') {
+    for line in rest.split_inclusive(ends_line) {
         let number = summary.lines + 1;
         let event = event_for(ports, line).map_err(|refusal| Damage {
             line: number,

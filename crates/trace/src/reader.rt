@@ -1,9 +1,7 @@
 // reader.rt — what a line of a trace says.
 ghost use Rattle.std.specs.Prelude.{◌≡◌, Ok};
-ghost use Rattle.std.specs.Str.{bytes_eq};
-ghost use Rattle.refusal.specs.declared.Refusal.TheVariants.{Field};
-ghost use Rattle.trace.specs.Field.{blank, number_in};
-ghost use Rattle.trace.specs.Line.{unless, within, numbers_in, head_in, arrival_in, tick_in, event_in, IsHead, IsEvent, ReadsBack};
+ghost use Rattle.trace.specs.Field.{number_in};
+ghost use Rattle.trace.specs.Line.{within, numbers_in, head_in, arrival_in, tick_in, event_in, IsHead, IsEvent, ReadsBack};
 ghost use Rattle.trace.specs.Steps.{Blank, Opened, Shaped, field_of};
 
 use crate::events::Event;
@@ -75,6 +73,7 @@ fn arrival(line: &[u8; 18]) -> Result<Event, Refusal>
     ensures { result ≡ arrival_in line.now }
 {
     let (port, tag) = numbers(line)?;
+    // `as`, since a `usize` has no `From` of a `u32`
     Ok(Event::Arrival {
         port: port as usize,
         tag,
@@ -85,8 +84,8 @@ fn arrival(line: &[u8; 18]) -> Result<Event, Refusal>
 fn tick(line: &[u8; 18]) -> Result<Event, Refusal>
     ensures { result ≡ tick_in line.now }
 {
-    blank_in(line, FieldPlace::First)?;
-    blank_in(line, FieldPlace::Second)?;
+    blank_at(line, FieldPlace::First)?;
+    blank_at(line, FieldPlace::Second)?;
     Ok(Event::Tick)
 }
 
@@ -94,23 +93,23 @@ fn tick(line: &[u8; 18]) -> Result<Event, Refusal>
 fn numbers(line: &[u8; 18]) -> Result<(u32, u32), Refusal>
     ensures { result ≡ numbers_in line.now }
 {
-    let first = number_in(line, FieldPlace::First)?;
-    let second = number_in(line, FieldPlace::Second)?;
+    let first = number_at(line, FieldPlace::First)?;
+    let second = number_at(line, FieldPlace::Second)?;
     Ok((first, second))
 }
 
 // The number in a field of the line.
-fn number_in(line: &[u8; 18], place: FieldPlace) -> Result<u32, Refusal>
+fn number_at(line: &[u8; 18], place: FieldPlace) -> Result<u32, Refusal>
     ensures { result ≡ within (number_in (field_of place line.now)) place Ok }
 {
-    number(field(line, place)).ok_or(Refusal::Field(place))
+    number(octets_at(line, place)).ok_or(Refusal::Field(place))
 }
 
 // That a field of the line is blank.
-fn blank_in(line: &[u8; 18], place: FieldPlace) -> Result<(), Refusal>
+fn blank_at(line: &[u8; 18], place: FieldPlace) -> Result<(), Refusal>
     ensures { Blank place line.now result }
 {
-    if field(line, place) == b"        ".as_slice() {
+    if octets_at(line, place) == b"        ".as_slice() {
         Ok(())
     } else {
         Err(Refusal::Field(place))
@@ -118,7 +117,7 @@ fn blank_in(line: &[u8; 18], place: FieldPlace) -> Result<(), Refusal>
 }
 
 // The eight octets of a field of the line.
-fn field(line: &[u8; 18], place: FieldPlace) -> &[u8]
+fn octets_at(line: &[u8; 18], place: FieldPlace) -> &[u8]
     ensures { result.now ≡ field_of place line.now }
 {
     match place {

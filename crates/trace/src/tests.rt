@@ -137,9 +137,7 @@ fn cuts(rt: HostRuntime) {
 fn whole_trace(rt: HostRuntime) -> Result<(), Fail> {
     let text =
         b"L       2       3\nA       0      11\nA       0      12\nA       0      13\nA       1      21\nT                \nA       1      22\nA       1      23\nA       0      14\n";
-    let Ok(summary) = inspect(text) else {
-        return Err(Fail::new("refused"));
-    };
+    let summary = inspect(text)?;
     assert_eq!(rt; summary.head(), (b'L', 2, 3));
     assert_eq!(rt; summary.rule(), Rule::LowestPort);
     assert_eq!(rt;
@@ -186,12 +184,12 @@ fn first_refused(text: &[u8]) -> Option<(usize, Refusal)> {
 
 #[test]
 fn damage_in_words(rt: HostRuntime) -> Result<(), Fail> {
-    let damage = inspect(b"L       2       3\nA       2       0\n").err();
-    let words = damage.map(|damage| damage.to_string(rt.alloc()));
-    let Some(words) = words else {
+    let text = b"L       2       3\nA       2       0\n";
+    let Err(damage) = inspect(text) else {
         return Err(Fail::new("not refused"));
     };
-    assert!(rt; words?.as_str() == "line 2: the port is at or above the number of ports");
+    let words = damage.to_string(rt.alloc())?;
+    assert!(rt; words.as_str() == "line 2: the port is at or above the number of ports");
     Ok(())
 }
 

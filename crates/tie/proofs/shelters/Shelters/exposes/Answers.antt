@@ -11,4 +11,4 @@ returns c =
     let table = c.args.self.now.sheltered in
     let pairs = YieldsList-from_zip (YieldsList-at c.zip-ports.ensures.first (YieldsList-from_slice cs c.iter.ensures.rest)) (YieldsList-from_slice table c.zip-ports.ensures.second.0) in
     let found = any_from_yields_List open_to c.any.new.self _ c.any.result c.any.ensures.ran pairs (λ x b q k. search (rules, tests)) in
-    record { value = found ∙ exposes_zip table cs (omega arith) }
+    found ∙ exposes_zip table cs (omega arith)
