@@ -17,9 +17,7 @@ pub fn write_number(text: &mut [u8], n: u32) -> Result<usize, Refusal>
     ensures law { is_ok result ≡ true → NumberBack n text.new }
 {
     let octets = field(n)?;
-    if text.len() < 8 {
-        return Err(Refusal::ShortText);
-    }
+    asks_room(text, 8)?;
     text[..8].copy_from_slice(&octets);
     Ok(8)
 }
@@ -67,12 +65,20 @@ fn write(text: &mut [u8], letter: u8, fields: &[[u8; 8]]) -> Result<usize, Refus
     ensures fields { (ns : List ℕ) → all_fit ns ≡ true → fields.now ≡ map field ns → is_ok result ≡ true → FieldsBack ns text.new }
     ensures head { (ports cells : ℕ) → fields.now ≡ map field (ports ∷ cells ∷ []) → is_ok result ≡ true → HeadBack letter ports cells text.new }
 {
-    if text.len() < 34 {
-        return Err(Refusal::ShortText);
-    }
+    asks_room(text, 34)?;
     let columns = fields.as_flattened();
     text[0] = letter;
     text[1..1 + columns.len()].copy_from_slice(columns);
     text[1 + columns.len()] = b'\n';
     Ok(columns.len() + 2)
+}
+
+// Asks the text space for room for this many octets, and refuses a shorter one.
+fn asks_room(text: &[u8], octets: usize) -> Result<(), Refusal>
+    ensures { result ≡ unless (nat_le octets (length text.now)) ShortText (Ok tt) }
+{
+    if text.len() < octets {
+        return Err(Refusal::ShortText);
+    }
+    Ok(())
 }

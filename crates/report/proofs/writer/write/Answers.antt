@@ -1,4 +1,4 @@
-use Rattle.std.proofs.Common.{◌≡◌, ℕ, suc, ◌+◌, ◌-◌, ◌≤◌, List, [], ◌∷◌, ◌++◌, length, drop, set, sym, ap, ◌∙◌, one-add, append_assoc, arith}
+use Rattle.std.proofs.Common.{◌≡◌, ℕ, suc, ◌+◌, ◌-◌, ◌≤◌, List, [], ◌∷◌, ◌++◌, length, drop, set, sym, ap, ◌∙◌, one-add, append_assoc, arith, rules}
 use borrow.Rule.Slice.PartMut.{put_mid}
 use Rattle.std.proofs.lemmas.List.{drop_more, set_at}
 use Rattle.report.proofs.ReadBack.{fields_back, head_written, line_of_fields}
@@ -16,7 +16,9 @@ put letter columns octets all (c ∷ text) e is h =
     ∙ ap (λ l. letter ∷ l) (sym (append_assoc all (10 ∷ []) _)))
 
 pub returns-clause-text : goal.returns-clause-text
-returns-clause-text c = put _ _ _ _ _ c.copy_from_slice.ensures.after c.as_flattened-columns.ensures.value (omega arith)
+returns-clause-text c =
+    let room : 34 ≤ length c.args.text.now = search rules in
+    put _ _ _ _ _ c.copy_from_slice.ensures.after c.as_flattened-columns.ensures.value (omega (arith, room))
 
 pub returns-clause-fields : goal.returns-clause-fields
 returns-clause-fields c ns fit is _ = fields_back _ _ _ _ fit (line_of_fields _ _ _ _ _ is (returns-clause-text c))
