@@ -1,5 +1,5 @@
 -- What a switch with Longest Queue Drop is, over any tie rule: what opening it, an arrival and a tick make of it. Assumes nothing.
---     Meaning R                       the meaning of a tie rule with states R: the members of the trait TieRule, of which picks is the port that it picks and after its state once it is told of a port
+--     Meaning R                       the meaning of a tie rule with states R, as the trait TieRule has it: picks, the port that it picks; after, its state once it is told of a port; and its letter. The law of picks is not in it
 --     Held, State                     a held cell; a switch
 --     queue s p, held s p             the queue of port p, and how many cells are in it
 --     offered_by, sent_by, lost_by    the counts of a port

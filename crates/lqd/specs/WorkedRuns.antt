@@ -1,5 +1,5 @@
 -- Runs that were worked out by hand, from the definitions alone. Assumes nothing.
---     in_order es                   a list of events, written in the order in which they come
+--     in_order es               a list of events, written in the order in which they come
 --     Loses meaning rule n b    every run through these events loses just these cells
 --     WorkedRuns                the runs, under rules with these meanings
 use Rattle.std.specs.Prelude.{◌≡◌, ℕ, true, false, List, [], ◌∷◌, ◌++◌, reverse, replicate, slice_set}
