@@ -6,6 +6,7 @@ ghost use Rattle.trace.specs.Steps.{Blank, Opened, Shaped, field_of};
 
 use crate::events::Event;
 use crate::field::number;
+use crate::lines::ends_line;
 use crate::rule::Rule;
 use refusal::{FieldPlace, Refusal};
 
@@ -63,7 +64,7 @@ fn shaped(line: &[u8]) -> Result<&[u8; 18], Refusal>
     ensures { Shaped line.now result }
 {
     match line.as_array() {
-        Some(octets) if octets[17] == b'\n' => Ok(octets),
+        Some(octets) if ends_line(&octets[17]) => Ok(octets),
         _ => Err(Refusal::LineShape),
     }
 }
