@@ -1,10 +1,10 @@
 -- What the code of a layer of sheltering hands down to the rule below is what its definition says. Assumes nothing.
-use Rattle.std.proofs.Common.{◌≡◌, ℕ, ◌+◌, ◌<◌, Bool, true, false, cond, not, ◌&&◌, ◌||◌, List, [], ◌∷◌, map, length, min, slice_index_or, slice_set, take, sym, ap, ◌∙◌, subst, refl, arith}
-use Rattle.std.specs.List.{list_any, range_with_len, zip}
+use Rattle.std.proofs.Common.{◌≡◌, ℕ, ◌+◌, ◌<◌, Bool, true, false, cond, not, ◌&&◌, ◌||◌, List, [], ◌∷◌, map, length, min, get_or, slice_index_or, slice_set, take, sym, ap, ◌∙◌, subst, refl, arith}
+use Rattle.std.specs.List.{list_any, range_with_len, zip, enumerate_from}
 use Rattle.std.proofs.lemmas.Bool.{both_ways, and_right, and_from, and_parts, not-true, not-false}
 use Rattle.std.proofs.Math.Bool.{and-true}
-use Rattle.std.proofs.lemmas.List.{length-take, length-set, length-take-le, get_or-take, ext_get_or}
-use Rattle.std.proofs.lemmas.List.FromFn.{fill_by_all}
+use Rattle.std.proofs.lemmas.List.{length-take, length-set, length-take-le, get_or-take, get_or_default, ext_get_or}
+use Rattle.std.proofs.lemmas.List.FromFn.{fill_by_all, length-enumerate_from, get_or-enumerate_from}
 use Rattle.std.proofs.lemmas.List.Edits.{fill_by_more}
 use Rattle.std.proofs.lemmas.Slice.Zip.{get_or-zip, length-zip}
 use Rattle.tie.specs.declared.candidate.Candidate.{Candidate}
@@ -36,10 +36,10 @@ spared_marked true c = ap (λ (m : Bool). record { marked = m; stamp = c.stamp }
 spared_marked false c = ap (λ (m : Bool). record { marked = m; stamp = c.stamp }) (sym (and-true c.marked))
 
 -- one more candidate goes down
-pub down_more : (table : List Bool) (cs : List Candidate) (b : Bool) (below : List Candidate) (i p : ℕ) (c : Candidate) → p ≡ i → p < 256 → c ≡ spared (b && is_sheltered table p) (slice_index_or cs p nobody) → Down table cs b i below → Down table cs b (p + 1) (slice_set below p c)
-down_more table cs b below i p c at l e h =
+pub down_more : (table : List Bool) (cs : List Candidate) (b : Bool) (below : List Candidate) (i : ℕ) (c : Candidate) → i < 256 → c ≡ spared (b && is_sheltered table i) (slice_index_or cs i nobody) → Down table cs b i below → Down table cs b (i + 1) (slice_set below i c)
+down_more table cs b below i c l e h =
     let f : ℕ → Candidate = λ q. spared (b && is_sheltered table q) (slice_index_or cs q nobody) in
-    subst (λ x. Down table cs b (p + 1) (slice_set below p x)) (sym e) (length-set below p (f p) ∙ h.0, fill_by_more f below p nobody (omega (arith, h.0)) (λ q k. h.1 q (omega arith)))
+    subst (λ x. Down table cs b (i + 1) (slice_set below i x)) (sym e) (length-set below i (f i) ∙ h.0, fill_by_more f below i nobody (omega (arith, h.0)) h.1)
 
 module _ (table : List Bool) (cs : List Candidate) (full : length table ≡ 256) where
   pairs : List (Candidate × Bool)
@@ -55,6 +55,19 @@ module _ (table : List Bool) (cs : List Candidate) (full : length table ≡ 256)
   pair_at k l =
       let short : k < min (length cs) 256 = omega (arith, length-zip cs table) in
       get_or-zip cs table k (nobody, false) (omega arith) (omega arith) ∙ ap (λ (c : Candidate). (c, is_sheltered table k)) (sym (get_or-take 256 cs k nobody (omega arith)))
+
+  -- turn i of a loop over the numbered pairs reads port i
+  pub turn_reads : (i port : ℕ) (c : Candidate) (b : Bool) → i < length (enumerate_from 0 (zip cs table)) → (port, (c, b)) ≡ get_or (enumerate_from 0 (zip cs table)) i (port, (c, b)) → (port ≡ i) × (i < 256) × (c ≡ slice_index_or cs i nobody) × (b ≡ is_sheltered table i)
+  turn_reads i port c b l e =
+      let long : i < length (zip cs table) = omega (arith, length-enumerate_from 0 (zip cs table)) in
+      let short : i < min (length cs) 256 = omega (arith, length-zip cs table) in
+      let own : ◌≡◌ {A = ℕ × (Candidate × Bool)} (port, (c, b)) (0 + i, get_or (zip cs table) i (c, b)) = e ∙ get_or-enumerate_from 0 (zip cs table) i (port, (c, b)) long in
+      let pair : ◌≡◌ {A = Candidate × Bool} (c, b) (get_or cs i c, get_or table i b) = ap (λ x. x.1) own ∙ get_or-zip cs table i (c, b) (omega arith) (omega arith) in (
+        ap (λ x. x.0) own ∙ omega arith,
+        omega arith,
+        ap (λ x. x.0) pair ∙ get_or_default cs i c nobody (omega arith),
+        ap (λ x. x.1) pair ∙ get_or_default table i b false (omega arith),
+      )
 
   pub exposes_zip : list_any open_to (zip cs table) ≡ exposes table cs
   unfolding pairs

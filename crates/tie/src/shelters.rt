@@ -31,7 +31,6 @@ impl Shelters {
     // The candidates that count as they go to the rule below, in the first places of a table of 256: a rule takes no
     // memory, and a list of that length needs some. Written by index, since a proof knows nothing of what was written
     // through an iterator.
-    #[tactic(auto, using(crate::proofs::HandingDown::down_more))]
     pub(crate) fn hand_down(&self, candidates: &[Candidate]) -> [Candidate; 256]
         ensures len { length result ≡ 256 }
         ensures value { take (length (that_count candidates.now)) result ≡ handed_down self.now.sheltered candidates.now }
