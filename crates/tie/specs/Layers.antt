@@ -24,7 +24,7 @@ any_counted {X} f (x ∷ xs) = ap (λ (b : Bool). f x || b) (any_counted f xs) �
     both false n = ap (λ k. nat_lt 0 k) (omega arith)
 
 -- a port that passes is counted
-pub some_counted : (f : ℕ → Bool) (n p : ℕ) → p < n → f p ≡ true → nat_lt 0 (count_by f (range_with_len 0 n)) ≡ true
+some_counted : (f : ℕ → Bool) (n p : ℕ) → p < n → f p ≡ true → nat_lt 0 (count_by f (range_with_len 0 n)) ≡ true
 some_counted f n p l e = sym (any_counted f (range_with_len 0 n)) ∙ list_any_at f (range_with_len 0 n) p 0 (omega (arith, length-range_with_len 0 n)) (ap f (get_or-range_with_len 0 n p 0 l ∙ omega arith) ∙ e)
 
 none_counted : (f : ℕ → Bool) (n : ℕ) → ((p : ℕ) → p < n → f p ≡ false) → nat_lt 0 (count_by f (range_with_len 0 n)) ≡ false
@@ -35,6 +35,13 @@ marked_counted : (cs : List Candidate) (p : ℕ) → is_marked (that_count cs) p
 marked_counted cs p = ap (λ (l : List Candidate). (slice_index_or l p nobody).marked) (take-take 256 256 cs (omega arith))
 
 module _ (table : List Bool) (cs : List Candidate) where
+  -- an exposed port that counts exposes the candidates
+  pub exposes_some : (p : ℕ) → p < length (that_count cs) → exposed table cs p ≡ true → exposes table cs ≡ true
+  exposes_some = some_counted (exposed table cs) (length (that_count cs))
+
+  pub exposes_none : ((p : ℕ) → p < length (that_count cs) → exposed table cs p ≡ false) → exposes table cs ≡ false
+  exposes_none = none_counted (exposed table cs) (length (that_count cs))
+
   length-unmarked : length (unmarked table cs) ≡ length (that_count cs)
   length-unmarked = length-map-range_with_len _ 0 (length (that_count cs))
 
@@ -59,7 +66,7 @@ module _ {R : Type 0} (picks : R → List Candidate → ℕ) (law : Lawful picks
         (λ (h : is_marked (unmarked table cs) (picks rule (unmarked table cs)) ≡ true). sym (marked_unmarked table cs _) ∙ h)
         (λ (h : is_marked (unmarked table cs) (picks rule (unmarked table cs)) ≡ false).
         let hidden : (q : ℕ) → q < length (that_count cs) → exposed table cs q ≡ false = λ q l. refuted _ (λ t. both_ways _ h (law.some rule (unmarked table cs) q (marked_unmarked table cs q ∙ t))) in
-        absurd (both_ways (exposes table cs) (none_counted (exposed table cs) (length (that_count cs)) hidden) some))
+        absurd (both_ways (exposes table cs) (exposes_none table cs hidden) some))
         (cases_Bool (is_marked (unmarked table cs) (picks rule (unmarked table cs))))
 
     below_some : (p : ℕ) → is_marked cs p ≡ true → (b : Bool) → exposes table cs ≡ b → is_marked cs (picks rule (cond b (unmarked table cs) (that_count cs))) ≡ true

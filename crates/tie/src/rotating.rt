@@ -27,6 +27,7 @@ impl Rotating {
     {
         let candidates = that_count(candidates);
         let n = candidates.len();
+        // taken once, and not at each step; there is no remainder where no candidate counts
         let start = self.start.checked_rem(n).unwrap_or(0);
         (0..n)
             .map(|step| (start + step) % n)

@@ -4,7 +4,7 @@ use Rattle.std.proofs.lemmas.List.{length_push}
 use Rattle.std.proofs.lemmas.List.FromFn.{length-enumerate_from}
 use Rattle.std.proofs.lemmas.Iterator.{YieldsList-from_slice, YieldsList-from_zip}
 use Rattle.std.proofs.lemmas.Iterator.Consumers.{YieldsList-at, YieldsList-from_enumerate, YieldsList-turn, YieldsList-end}
-use Rattle.tie.proofs.HandingDown.{Down, spared, turn_reads, down_more, down_all}
+use Rattle.tie.proofs.HandingDown.{Down, spared, pairs_long, turn_reads, down_more, down_all}
 use Rattle.tie.proofs.shelters.Shelters.hand_down.Goals as goal
 use Rattle.tie.proofs.shelters.Shelters.hand_down.Goals.{then-exposes+then-sheltered, else-exposes, else-exposes-via-then-exposes+else-sheltered, else-exposes-via-else-exposes}
 
@@ -38,4 +38,4 @@ returns-clause-value c =
     let pairs = YieldsList-from_zip (YieldsList-at c.zip.ensures.first (YieldsList-from_slice cs c.iter.ensures.rest)) (YieldsList-from_slice table c.zip.ensures.second.0) in
     let items = YieldsList-at c.into_iter-port-iterator.ensures.into_iter_gives (YieldsList-from_enumerate (YieldsList-at c.enumerate-port-items.ensures.source pairs) c.enumerate-port-items.ensures.count) in
     let all = YieldsList-end items c.loop-port.yielded c.loop-port.port-iterator c.loop-port.yielded_by c.next.result c.next.new.self c.in-None.is c.next.ensures.steps in
-    down_all table cs full c.exposes-exposes.result c.loop-port.below (all.1 ∙ length-enumerate_from 0 (zip cs table)) c.exposes-exposes.ensures c.loop-port.invariant
+    down_all table cs c.exposes-exposes.result c.loop-port.below _ (omega (arith, all.1, length-enumerate_from 0 (zip cs table), pairs_long table cs full)) c.exposes-exposes.ensures c.loop-port.invariant
