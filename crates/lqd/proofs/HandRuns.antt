@@ -73,7 +73,7 @@ unfolding may
 sends_six = ticks 0 0 4 (comes 1 1 0 1 1 4 refl (ticks 1 0 2 (comes 1 2 0 2 1 2 refl (ticks 2 0 0 keeps_three))))
 
 -- the meanings of the rules
-abbrev unmoved : {R : Type 0} → R → ℕ → R
+abbrev pub unmoved : {R : Type 0} → R → ℕ → R
 unmoved rule v = rule
 
 abbrev by_lowest : Meaning LowestPort

@@ -1,7 +1,7 @@
 -- What was written is read back. Assumes nothing.
-use Rattle.std.proofs.Common.{◌≡◌, ℕ, zero, suc, ◌+◌, ◌-◌, ◌*◌, ◌<◌, ◌≤◌, Bool, true, false, leb, List, [], ◌∷◌, ◌++◌, length, get_or, take, drop, Ok, Result, map, refl, ap, ◌∙◌, append_assoc, one-add, arith, length-append}
+use Rattle.std.proofs.Common.{◌≡◌, ℕ, zero, suc, ◌+◌, ◌-◌, ◌*◌, ◌<◌, ◌≤◌, Bool, true, false, leb, List, [], ◌∷◌, ◌++◌, length, get_or, take, drop, Some, Ok, Result, map, refl, ap, ◌∙◌, append_assoc, one-add, arith, length-append}
 use Rattle.std.specs.List.{flat_map}
-use Rattle.std.proofs.lemmas.List.{take_at, drop_at, drop-drop}
+use Rattle.std.proofs.lemmas.List.{take_at, drop_at, drop-drop, length-take-le}
 use Rattle.std.proofs.lemmas.List.Folds.{flat_map-map}
 use Rattle.std.proofs.lemmas.Bool.{and_parts, leb-true}
 use Rattle.refusal.specs.declared.Refusal.{Refusal}
@@ -17,7 +17,7 @@ passed : {T : Type 0} (test : Bool) (refusal : Refusal) (x : T) (r : Result T Re
 passed true refusal x r e = (refl, e)
 passed false refusal x r e = absurd cc
 
-fit_at : (ns : List ℕ) (k : ℕ) → all_fit ns ≡ true → k < length ns → get_or ns k 0 ≤ greatest
+pub fit_at : (ns : List ℕ) (k : ℕ) → all_fit ns ≡ true → k < length ns → get_or ns k 0 ≤ greatest
 fit_at [] k e h = absurd (omega arith)
 fit_at (n ∷ ns) zero e h = leb-true _ _ (and_parts (leb n greatest) (all_fit ns) e).0
 fit_at (n ∷ ns) (suc k) e h = fit_at ns k (and_parts (leb n greatest) (all_fit ns) e).1 (omega arith)
@@ -38,9 +38,17 @@ field_of_line letter ns rest k e h =
     let wide : 9 + 8 * k - (1 + 8 * k) ≡ 8 = omega arith in
     rw (wide, one-add, append_assoc) (among_fields ns (10 ∷ rest) k e h)
 
--- the field of n that a text begins with
-pub number_back : (n : ℕ) (octets columns rest : List ℕ) → Ok octets ≡ unless (leb n greatest) NumberTooLarge (Ok (field n)) → columns ≡ octets → NumberBack n (columns ++ rest)
-number_back n octets columns rest e is =
+-- a field that was put after at octets
+pub number_back : (n at : ℕ) (s rest t : List ℕ) → n ≤ greatest → at + 8 ≤ length s → t ≡ take at s ++ (field n ++ rest) → number_in (take 8 (drop at t)) ≡ Some n
+number_back n at s rest t h within is =
+    ap (λ l. number_in (take 8 (drop at l))) is
+    ∙ ap (λ l. number_in (take 8 l)) (drop_at (take at s) (field n ++ rest) at (length-take-le at s (omega arith)))
+    ∙ ap number_in (take_at (field n) rest 8 (length-field n h))
+    ∙ number_in_field n h
+
+-- the field of n that a text begins with, where it was not refused
+pub first_back : (n : ℕ) (octets columns rest : List ℕ) → Ok octets ≡ unless (leb n greatest) NumberTooLarge (Ok (field n)) → columns ≡ octets → NumberBack n (columns ++ rest)
+first_back n octets columns rest e is =
     let p = passed (leb n greatest) NumberTooLarge octets (Ok (field n)) e in
     let fits : n ≤ greatest = leb-true _ _ p.0 in
     let shown : columns ≡ field n = cc in

@@ -10,7 +10,7 @@ use crate::field::{field, fields};
 use refusal::Refusal;
 
 // Writes the field of n: 8 octets. It asks for no more space than that, since a field is a part of a line.
-#[tactic(auto, using(crate::proofs::ReadBack::number_back))]
+#[tactic(auto, using(crate::proofs::ReadBack::first_back))]
 pub fn write_number(text: &mut [u8], n: u32) -> Result<usize, Refusal>
     ensures answer { result ≡ answer_of (n ∷ []) 8 8 text.old }
     ensures text { text.new ≡ after result (field n) text.old }

@@ -1,16 +1,16 @@
 -- What the code of a layer of sheltering hands down to the rule below is what its definition says. Assumes nothing.
-use Rattle.std.proofs.Common.{◌≡◌, ℕ, ◌+◌, ◌<◌, ◌≤◌, Bool, true, false, cond, not, ◌&&◌, ◌||◌, List, [], ◌∷◌, map, length, min, get_or, slice_index_or, slice_set, take, sym, ap, ◌∙◌, subst, refl, arith}
+use Rattle.std.proofs.Common.{◌≡◌, ℕ, ◌+◌, ◌-◌, ◌<◌, ◌≤◌, Bool, true, false, cond, not, ◌&&◌, ◌||◌, List, [], ◌∷◌, map, length, min, get_or, slice_index_or, slice_set, take, sym, ap, ◌∙◌, subst, refl, arith}
 use Rattle.std.specs.List.{list_any, range_with_len, zip, enumerate_from}
 use Rattle.std.proofs.lemmas.Bool.{both_ways, and_right, and_from, and_parts, not-true, not-false}
 use Rattle.std.proofs.Math.Bool.{and-true}
-use Rattle.std.proofs.lemmas.List.{length-take, length-set, length-take-le, get_or-take, get_or_default, ext_get_or}
+use Rattle.std.proofs.lemmas.List.{take_all, take-take, length-take, length-set, length-take-le, get_or-take, get_or_default, ext_get_or}
 use Rattle.std.proofs.lemmas.List.FromFn.{fill_by_all, length-enumerate_from, get_or-enumerate_from}
 use Rattle.std.proofs.lemmas.List.Edits.{fill_by_more}
 use Rattle.std.proofs.lemmas.Slice.Zip.{get_or-zip, length-zip}
 use Rattle.tie.specs.declared.candidate.Candidate.{Candidate}
 use Rattle.tie.specs.declared.sheltering.Sheltering.{Sheltering}
 use Rattle.tie.specs.Rules.{Lawful}
-use Rattle.tie.specs.Candidates.{that_count, nobody}
+use Rattle.tie.specs.Candidates.{that_count, nobody, is_marked, stamp_of}
 use Rattle.tie.specs.Sheltered.{is_sheltered, exposed, exposes, unmarked, handed_down, layered, Spares}
 use Rattle.tie.specs.Picking.{refuted, few, counts}
 use Rattle.tie.specs.Layers.{any_counted, exposes_some, picks_exposed}
@@ -55,6 +55,17 @@ module _ (table : List Bool) (cs : List Candidate) where
       let long : length (take n below) ≡ n = length-take-le n below (omega (arith, few cs, h.0)) in
       subst (λ t. take n below ≡ cond t (unmarked table cs) (that_count cs)) e
       (gone_down b (take n below) long (λ q l. get_or-take n below q nobody (omega arith) ∙ h.1 q (omega arith)))
+
+-- what is handed down of the candidates that count is what is handed down of the list
+pub down_counted : (table : List Bool) (cs counted below : List Candidate) → counted ≡ that_count cs → take (length counted) below ≡ handed_down table counted → take (length counted - 0) below ≡ handed_down table cs
+unfolding handed_down
+down_counted table cs counted below is down =
+    let part : length counted - 0 ≡ length counted = omega arith in
+    ap (λ n. take n below) part ∙ down ∙ ap (handed_down table) is ∙ simp (take-take 256 256 cs (omega arith), exposed, is_marked, stamp_of, that_count)
+
+-- a port of at most 256 is exposed as its candidate and its yes or no say
+pub read_exposed : (table : List Bool) (cs : List Candidate) → length cs ≤ 256 → (p : ℕ) (b : Bool) → b ≡ ((get_or cs p nobody).marked && not (is_sheltered table p)) → exposed table cs p ≡ b
+read_exposed table cs short p b r = sym (r ∙ ap (λ (l : List Candidate). (get_or l p nobody).marked && not (is_sheltered table p)) (sym (take_all 256 cs short)))
 
 -- the candidates, each beside the yes or no of its port, as the code goes through them
 module _ (table : List Bool) (cs : List Candidate) (full : length table ≡ 256) where

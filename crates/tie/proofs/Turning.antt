@@ -5,9 +5,11 @@ use Rattle.std.specs.List.{range_with_len, AllWithin, HoldsAt}
 use Rattle.std.specs.Option.{MatchOption, SomeIff, unwrap_or}
 use Rattle.std.proofs.lemmas.Bool.{both_ways, cases_lt}
 use Rattle.std.proofs.lemmas.List.FromFn.{length-map-range_with_len, get_or-map-range_with_len}
-use Rattle.tie.specs.Rules.{distance, GoesRound}
-use Rattle.tie.specs.Picking.{Best, Sofar}
-use Rattle.tie.proofs.Searching.{not_less, best_by}
+use Rattle.tie.specs.declared.candidate.Candidate.{Candidate}
+use Rattle.tie.specs.Candidates.{that_count, is_marked}
+use Rattle.tie.specs.Rules.{least_marked, Chosen, distance, GoesRound}
+use Rattle.tie.specs.Picking.{Best, Sofar, counts}
+use Rattle.tie.proofs.Searching.{not_less, not_below, best_by, Finds, finds_none, finds_some}
 
 -- the port that comes at a step, going round n ports from s
 abbrev pub turn : ℕ → ℕ → ℕ → ℕ
@@ -80,3 +82,39 @@ module _ (m : ℕ → Bool) (n s : ℕ) where
       let within : step < n = omega (arith, length-map-range_with_len (turn n s) 0 n) in
       let same : turn n s step ≡ p = sym (came step within) ∙ at 0 in
       subst (Best m (distance n s) n) same (first_is_nearest step within (subst (λ q. m q ≡ true) (sym same) here) before)
+
+-- a loop that goes round the n candidates that count, and stops at the first that is marked
+module _ (cs : List Candidate) (n s : ℕ) (all : n ≡ length (that_count cs)) where
+  -- a marked port comes at its distance
+  comes : (q : ℕ) → is_marked cs q ≡ true → is_marked cs (turn n s (distance n s q)) ≡ true
+  comes q t = subst (λ k. is_marked cs k ≡ true) (sym (turn_distance n s q (omega (arith, counts cs q t)))) t
+
+  -- the marked port that comes first is chosen
+  chosen_turn : (step port : ℕ) → step < n → port ≡ turn n s step → is_marked cs port ≡ true → ((d : ℕ) → d < step → is_marked cs (turn n s d) ≡ false) → Chosen (distance n s) cs port
+  chosen_turn step port l at e before =
+      let own : distance n s port ≡ step = ap (distance n s) at ∙ distance_turn n s step l in
+      let later : (q : ℕ) → is_marked cs q ≡ true → step ≤ distance n s q = λ q t. not_below (λ d. is_marked cs (turn n s d)) step before (distance n s q) (comes q t) in
+      record {
+        some = λ q t. e;
+        none = λ h. absurd (both_ways (is_marked cs port) (h port) e);
+        least = λ q t. omega (arith, own, later q t);
+        first = λ q t k. let same : port ≡ q = at ∙ ap (turn n s) (sym own ∙ sym k) ∙ turn_distance n s q (omega (arith, counts cs q t)) in omega arith;
+      }
+
+  -- an answer to a search by distance, as a contract states it
+  abbrev pub Comes : Option ℕ → Type 0
+  Comes r = let k = length (that_count cs) in record { value : r ≡ least_marked (distance k s) cs; law : Chosen (distance k s) cs (unwrap_or r 256); round : GoesRound k s }
+
+  as_comes : (r : Option ℕ) → Finds (distance n s) cs r → Comes r
+  as_comes r h =
+      let found = subst (λ k. Finds (distance k s) cs r) all h in
+      record { value = found.value; law = found.law; round = goes_round (length (that_count cs)) s }
+
+  -- the marked port that comes first is found
+  pub comes_some : (step port : ℕ) → step < n → port ≡ turn n s step → is_marked cs port ≡ true → ((d : ℕ) → d < step → is_marked cs (turn n s d) ≡ false) → Comes (Some port)
+  comes_some step port l at e before = as_comes (Some port) (finds_some (distance n s) cs port e (chosen_turn step port l at e before))
+
+  -- where no port that comes is marked, none is
+  pub comes_none : ((d : ℕ) → d < n → is_marked cs (turn n s d) ≡ false) → Comes None
+  comes_none never = as_comes None (finds_none (distance n s) cs (λ q t.
+      both_ways (is_marked cs (turn n s (distance n s q))) (never (distance n s q) ((goes_round n s).below q (omega (arith, counts cs q t)))) (comes q t)))

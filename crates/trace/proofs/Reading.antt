@@ -132,10 +132,13 @@ only_spaces n zero (suc m) h e = omega (arith, ap length e)
 only_spaces n (suc k) zero h e = omega (arith, first_digit n 32 _ h e)
 only_spaces n (suc k) (suc m) h e = only_spaces n k m h (ap (drop 1) e)
 
+pub front_idle : (bs : List ℕ) → Front bs None → (n : ℕ) → n ≤ greatest → bs ≡ field n → ⊥
+unfolding field
+front_idle bs f n h e = only_spaces n f.spaces (8 - length (decimal n)) h (sym (append-nil _) ∙ sym f.is ∙ e)
+
 -- what was read of all eight octets is the number that they show
 pub front_shows : (bs : List ℕ) (value : Option ℕ) → Front bs value → length bs ≡ 8 → Shows bs value
-unfolding field
-front_shows bs None f h = λ n small e. only_spaces n f.spaces (8 - length (decimal n)) small (sym (append-nil _) ∙ sym f.is ∙ e)
+front_shows bs None f h = front_idle bs f
 front_shows bs (Some value) f h = front_all bs value f h
 
 -- the same at an index of the octets
@@ -151,12 +154,15 @@ module _ (bs : List ℕ) (i : ℕ) (value : Option ℕ) (inside : i < length bs)
       (subst (Front (take i bs ++ get_or bs i 0 ∷ [])) (sym e)
       (subst (λ x. Front (take i bs ++ x ∷ []) None) (sym c) (front_space (take i bs) (subst (Front (take i bs)) e f))))
 
+  pub digit_taken : (d : ℕ) → i < 8 → (value ≢ Some 0) → d < 10 → get_or bs i 0 ≡ 48 + d → Front (take (i + 1) bs) (Some (so_far value * 10 + d))
+  digit_taken d few some low c =
+      subst (λ l. Front l (Some (so_far value * 10 + d))) (sym (take_more bs i 0 inside ∙ ap (λ x. take i bs ++ x ∷ []) c))
+      (front_digit (take i bs) value d f (simp length-take (omega arith)) (goes_on value some) low)
+
   pub room_at : i < 8 → so_far value < 10000000
   room_at few = front_room (take i bs) value f (simp length-take (omega arith))
 
--- one more digit was read
+-- one more digit was read, of eight octets
 pub digit_more : (bs : List ℕ) (i : ℕ) (value : Option ℕ) (n d : ℕ) → i < length bs → length bs ≡ 8 → Front (take i bs) value → (value ≢ Some 0) → n ≡ so_far value → d < 10 → get_or bs i 0 ≡ 48 + d → Front (take (i + 1) bs) (Some (n * 10 + d))
 digit_more bs i value n d inside long f some is low c =
-    subst (λ l. Front l (Some (n * 10 + d))) (sym (take_more bs i 0 inside ∙ ap (λ x. take i bs ++ x ∷ []) c))
-    (subst (λ m. Front (take i bs ++ (48 + d) ∷ []) (Some (m * 10 + d))) (sym is)
-    (front_digit (take i bs) value d f (simp length-take (omega arith)) (goes_on value some) low))
+    subst (λ m. Front (take (i + 1) bs) (Some (m * 10 + d))) (sym is) (digit_taken bs i value inside f d (omega arith) some low c)
