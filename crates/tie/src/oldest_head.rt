@@ -40,8 +40,11 @@ fn oldest_marked(candidates: &[Candidate]) -> Option<usize>
 {
     let mut best: Option<(usize, u32)> = None;
     for (port, candidate) in that_count(candidates).iter().enumerate() {
+        if !candidate.is_marked() {
+            continue;
+        }
         let stamp = candidate.stamp();
-        if candidate.is_marked() && best.is_none_or(|(_, oldest)| stamp < oldest) {
+        if best.is_none_or(|(_, oldest)| stamp < oldest) {
             best = Some((port, stamp));
         }
     }

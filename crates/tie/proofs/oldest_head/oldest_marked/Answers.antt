@@ -7,7 +7,7 @@ use Rattle.tie.specs.Rules.{least_marked}
 use Rattle.tie.specs.Picking.{ports}
 use Rattle.tie.proofs.Searching.{kept, smallest_more}
 use Rattle.tie.proofs.oldest_head.oldest_marked.Goals as goal
-use Rattle.tie.proofs.oldest_head.oldest_marked.Goals.{then-is_marked+then-is_none_or, else-is_marked, else-is_marked-via-then-is_marked+else-is_none_or, else-is_marked-via-else-is_marked}
+use Rattle.tie.proofs.oldest_head.oldest_marked.Goals.{then-is_none_or, else-is_none_or}
 
 -- a port beside its key
 abbrev keyed : (ℕ → ℕ) → Option ℕ → Option (ℕ × ℕ)
@@ -27,6 +27,13 @@ pub loop-port-init : goal.loop-port-init
 unfolding ports
 loop-port-init c = refl
 
+pub loop-port-preserved-then-not-is_marked : goal.loop-port-preserved-then-not-is_marked
+loop-port-preserved-then-not-is_marked c =
+    let m = is_marked c.args.candidates.now in
+    let key = stamp_of c.args.candidates.now in
+    let here : c.is_marked.result ≡ m c.loop-port.port = c.is_marked.ensures.value ∙ ap (λ (l : List Candidate). (slice_index_or l c.loop-port.port nobody).marked) c.that_count-candidate-items.ensures.value in
+    c.loop-port.invariant ∙ ap (keyed key) (sym (smallest_more m key c.loop-port.port ∙ cond-false _ _ _ (sym here ∙ c.if-not-is_marked.true)))
+
 pub loop-port-preserved : goal.loop-port-preserved
 loop-port-preserved c =
     let is = c.that_count-candidate-items.ensures.value in
@@ -37,16 +44,11 @@ loop-port-preserved c =
     let here : c.is_marked.result ≡ m port = c.is_marked.ensures.value ∙ ap (λ (l : List Candidate). (slice_index_or l port nobody).marked) is in
     let age : c.stamp-stamp.result ≡ key port = c.stamp-stamp.ensures.value ∙ ap (λ (l : List Candidate). (slice_index_or l port nobody).stamp) is in
     let more = smallest_more m key port in
-    elim c.if-is_marked.branch [
-      | then-is_marked+then-is_none_or w ↦
-          let turn = taken key port _ _ best w.is_none_or.result age c.loop-port.invariant (λ e. rw e at w.is_none_or.ensures) (λ x e. search (rules, tests)) in
-          w.best-is ∙ sym (cond-true _ _ best w.if-is_none_or.true) ∙ turn ∙ ap (keyed key) (sym (more ∙ cond-true _ _ _ (sym here ∙ w.if-is_marked.true)))
-      | else-is_marked w ↦ elim w.else-is_marked.branch [
-        | else-is_marked-via-then-is_marked+else-is_none_or w' ↦
-            let turn = taken key port _ _ best w'.is_none_or.result age c.loop-port.invariant (λ e. rw e at w'.is_none_or.ensures) (λ x e. search (rules, tests)) in
-            w.best-is ∙ sym (cond-false _ _ best w'.if-is_none_or.false) ∙ turn ∙ ap (keyed key) (sym (more ∙ cond-true _ _ _ (sym here ∙ w'.if-is_marked.true)))
-        | else-is_marked-via-else-is_marked w' ↦ w.best-is ∙ c.loop-port.invariant ∙ ap (keyed key) (sym (more ∙ cond-false _ _ _ (sym here ∙ w'.if-is_marked.false)))
-      ]
+    let after = ap (keyed key) (sym (more ∙ cond-true _ _ _ (sym here ∙ c.if-not-is_marked.false))) in
+    let turn = taken key port _ _ best c.is_none_or.result age c.loop-port.invariant (λ e. rw e at c.is_none_or.ensures) (λ x e. search (rules, tests)) in
+    elim c.if-is_none_or.branch [
+      | then-is_none_or w ↦ w.best-is ∙ sym (cond-true _ _ best w.if-is_none_or.true) ∙ turn ∙ after
+      | else-is_none_or w ↦ w.best-is ∙ sym (cond-false _ _ best w.if-is_none_or.false) ∙ turn ∙ after
     ]
 
 pub returns : goal.returns
