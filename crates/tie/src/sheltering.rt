@@ -51,11 +51,14 @@ impl<R: TieRule> TieRule for Sheltering<R> {
 
     ghost lawful = { layered_lawful R.TieRule.picks R.TieRule.lawful };
 
+    // Put in line where it is called: a function clears its table each time it is entered.
+    #[inline]
     fn pick(&self, candidates: &[Candidate]) -> usize
         ensures value { result ≡ layered R.TieRule.picks self.now candidates.now }
         ensures law { Spares self.now.shelters.sheltered candidates.now result }
     {
-        let below = self.shelters.hand_down(candidates);
+        let mut below = [Candidate::new(false, 0); MAX_PORTS];
+        self.shelters.hand_down(candidates, &mut below);
         self.rule.pick(&below[..that_count(candidates).len()])
     }
 

@@ -28,15 +28,14 @@ impl Shelters {
         self.sheltered[port] = yes;
     }
 
-    // The candidates that count as they go to the rule below, in the first places of a table of 256: a rule takes no
-    // memory, and a list of that length needs some. Written by index, since a proof knows nothing of what was written
-    // through an iterator.
-    pub(crate) fn hand_down(&self, candidates: &[Candidate]) -> [Candidate; 256]
-        ensures len { length result ≡ 256 }
-        ensures value { take (length (that_count candidates.now)) result ≡ handed_down self.now.sheltered candidates.now }
+    // Writes the candidates that count as they go to the rule below, at the start of a table of 256: a rule takes no
+    // memory, and a list of that length needs some. The table is lent, since one that is answered is copied once more.
+    // Written by index, since a proof knows nothing of what was written through an iterator.
+    pub(crate) fn hand_down(&self, candidates: &[Candidate], below: &mut [Candidate; 256])
+        ensures len { length below.new ≡ 256 }
+        ensures value { take (length (that_count candidates.now)) below.new ≡ handed_down self.now.sheltered candidates.now }
     {
         let exposes = self.exposes(candidates);
-        let mut below = [Candidate::new(false, 0); MAX_PORTS];
         for (port, (candidate, sheltered)) in candidates.iter().zip(&self.sheltered).enumerate() {
             below[port] = if exposes && *sheltered {
                 candidate.unmarked()
@@ -44,7 +43,6 @@ impl Shelters {
                 *candidate
             };
         }
-        below
     }
 
     // Whether a marked candidate that counts is not sheltered.
