@@ -63,7 +63,7 @@ down_counted table cs counted below is down =
     let part : length counted - 0 ≡ length counted = omega arith in
     ap (λ n. take n below) part ∙ down ∙ ap (handed_down table) is ∙ simp (take-take 256 256 cs (omega arith), exposed, is_marked, stamp_of, that_count)
 
--- a port of at most 256 is exposed as its candidate and its yes or no say
+-- in a list of at most 256 candidates, a port is exposed as its candidate and its yes or no say
 pub read_exposed : (table : List Bool) (cs : List Candidate) → length cs ≤ 256 → (p : ℕ) (b : Bool) → b ≡ ((get_or cs p nobody).marked && not (is_sheltered table p)) → exposed table cs p ≡ b
 read_exposed table cs short p b r = sym (r ∙ ap (λ (l : List Candidate). (get_or l p nobody).marked && not (is_sheltered table p)) (sym (take_all 256 cs short)))
 

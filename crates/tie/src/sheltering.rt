@@ -51,7 +51,7 @@ impl<R: TieRule> TieRule for Sheltering<R> {
 
     ghost lawful = { layered_lawful R.TieRule.picks R.TieRule.lawful };
 
-    // Put in line where it is called: a function clears its table each time it is entered.
+    // Put in line where it is called: as a function of its own it would clear its table on entry, before it is filled.
     #[inline]
     fn pick(&self, candidates: &[Candidate]) -> usize
         ensures value { result ≡ layered R.TieRule.picks self.now candidates.now }

@@ -3,7 +3,7 @@ ghost use Rattle.std.specs.Prelude.{◌≡◌, ◌<◌, false, length, take, rep
 ghost use Rattle.tie.specs.Candidates.{that_count};
 ghost use Rattle.tie.specs.Sheltered.{exposes, handed_down};
 
-use crate::candidate::{Candidate, MAX_PORTS};
+use crate::candidate::Candidate;
 
 #[derive(PartialEq, Eq, Debug, Drop)]
 pub(crate) struct Shelters {
